@@ -1,0 +1,5 @@
+pub mod Words
+pub mod File
+pub mod Wrong
+pub mod Bytes
+pub mod RoundTrip

@@ -1,0 +1,33 @@
+use native.Mathlib.Numerals.{add-one}
+use Rattle.rules.specs.Rules.{columnWrong}
+use borrow.Author.Needs.{needs}
+use Rattle.problem.proofs.column_wrong.Statement.{statement}
+use Rattle.problem.proofs.column_wrong.Tie as tie
+
+returns : tie.Need-returns
+unfolding columnWrong
+returns c =
+    let at-wide = c .before .before .before in
+    let start = at-wide .before .before .before .before .before .before in
+    rw (c .end-of .ensures, c .before .long2 .ensures, at-wide .wide .ensures .0, at-wide .before .before .long .ensures, start .pre .from-is, add-one (start .args .c))
+
+pub column-wrong-spec : {M : Type 1} → statement M
+column-wrong-spec =
+    tie.close
+    (tie.spec
+    (λ c. search needs)
+    (λ c. search needs)
+    (λ c. search needs)
+    (λ c. search needs)
+    (λ c. search needs)
+    (λ c. search needs)
+    (λ c. search needs)
+    (λ c. search needs)
+    (λ c κs. search needs)
+    (λ c. search needs)
+    (λ c. search needs)
+    (λ c κs. search needs)
+    (λ c. search needs)
+    (λ c κs. search needs)
+    (λ c κs. search needs)
+    returns)

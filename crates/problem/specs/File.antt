@@ -1,0 +1,86 @@
+-- The problem file: the bytes of a problem's words, and the words of a file's bytes. Numbers are big-endian.
+use Prim.Native.Nat.{ℕ, _+_, _*_, _/_, _%_}
+use mathlib.Core.List.{List, [], _∷_, _++_}
+use lib.ListN.{getD, drop}
+use Rattle.basics.specs.Runs.{run, piece}
+use Rattle.rules.specs.Problem.{columns, messages}
+
+-- ---- from bytes to words
+-- the number that the two bytes at i are, and that the four bytes are
+abbrev pub two : List ℕ → ℕ → ℕ
+two l i = getD l i 0 * 256 + getD l (i + 1) 0
+
+abbrev pub four : List ℕ → ℕ → ℕ
+four l i = two l i * 65536 + two l (i + 2)
+
+-- rows, cycle, reference window, reference identifier, trigger limit, columns, messages
+abbrev pub headerOf : List ℕ → List ℕ
+headerOf f = getD f 5 0 ∷ two f 6 ∷ two f 8 ∷ two f 10 ∷ getD f 12 0 ∷ getD f 13 0 ∷ getD f 14 0 ∷ []
+
+-- start, width
+abbrev pub columnOf : List ℕ → List ℕ
+columnOf r = two r 0 ∷ two r 2 ∷ []
+
+-- identifier, sender node, data bytes, receiver mask, period, offset, deadline
+abbrev pub messageOf : List ℕ → List ℕ
+messageOf r = two r 0 ∷ getD r 2 0 ∷ getD r 3 0 ∷ two r 4 ∷ four r 6 ∷ four r 10 ∷ four r 14 ∷ []
+
+-- how many columns and messages a file says that it has
+abbrev pub columnsIn : List ℕ → ℕ
+columnsIn f = getD f 13 0
+
+abbrev pub messagesIn : List ℕ → ℕ
+messagesIn f = getD f 14 0
+
+-- the words of a file: after the header come the column records, then the message records
+unfoldable pub wordsOf : List ℕ → List ℕ
+wordsOf f =
+    headerOf f
+    ++ run (columnsIn f) (λ c. columnOf (piece 4 c (drop 16 f)))
+    ++ run (messagesIn f) (λ j. messageOf (piece 18 j (drop (16 + 4 * columnsIn f) f)))
+
+-- ---- from words to bytes
+abbrev pub low : ℕ → ℕ
+low x = x % 256
+
+abbrev pub high : ℕ → ℕ
+high x = x / 256 % 256
+
+abbrev pub third : ℕ → ℕ
+third x = low (x / 65536)
+
+abbrev pub top : ℕ → ℕ
+top x = high (x / 65536)
+
+-- the letters TSM, version 1, the seven words, 0
+abbrev pub headerBytes : List ℕ → List ℕ
+headerBytes p =
+    84 ∷ 83 ∷ 77 ∷ 0 ∷ 1
+    ∷ low (getD p 0 0)
+    ∷ high (getD p 1 0) ∷ low (getD p 1 0)
+    ∷ high (getD p 2 0) ∷ low (getD p 2 0)
+    ∷ high (getD p 3 0) ∷ low (getD p 3 0)
+    ∷ low (getD p 4 0) ∷ low (getD p 5 0) ∷ low (getD p 6 0) ∷ 0 ∷ []
+
+abbrev pub columnBytes : List ℕ → List ℕ
+columnBytes r = high (getD r 0 0) ∷ low (getD r 0 0) ∷ high (getD r 1 0) ∷ low (getD r 1 0) ∷ []
+
+abbrev pub messageBytes : List ℕ → List ℕ
+messageBytes r =
+    high (getD r 0 0) ∷ low (getD r 0 0)
+    ∷ low (getD r 1 0) ∷ low (getD r 2 0)
+    ∷ high (getD r 3 0) ∷ low (getD r 3 0)
+    ∷ top (getD r 4 0) ∷ third (getD r 4 0) ∷ high (getD r 4 0) ∷ low (getD r 4 0)
+    ∷ top (getD r 5 0) ∷ third (getD r 5 0) ∷ high (getD r 5 0) ∷ low (getD r 5 0)
+    ∷ top (getD r 6 0) ∷ third (getD r 6 0) ∷ high (getD r 6 0) ∷ low (getD r 6 0) ∷ []
+
+-- the file of a problem's words
+unfoldable pub fileOf : List ℕ → List ℕ
+fileOf p =
+    headerBytes p
+    ++ run (columns p) (λ c. columnBytes (piece 2 c (drop 7 p)))
+    ++ run (messages p) (λ j. messageBytes (piece 7 j (drop (7 + 2 * columns p) p)))
+
+-- how many bytes the file of a problem has
+abbrev pub byteCount : List ℕ → ℕ
+byteCount p = 16 + 4 * columns p + 18 * messages p
