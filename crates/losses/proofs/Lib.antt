@@ -1,0 +1,6 @@
+pub mod Cells
+pub mod Gaps
+pub mod Sum
+pub mod Marks
+pub mod Tallies
+pub mod Promise

@@ -1,0 +1,38 @@
+-- The cells of the rows below i are marked and no other; i is one of the rows r, r + step, .. and rises by a step until it leaves the matrix.
+use Prim.Native.Nat.{_≤_, _-_}
+use native.Mathlib.Omega.{arith}
+use borrow.Author.Needs.{needs}
+use Rattle.losses.proofs.Marks.{Marking, marking-none, marking-more, marking-all}
+use Rattle.losses.proofs.mark.Statement.{statement}
+use Rattle.losses.proofs.mark.Tie as tie
+
+abbrev Inv-loop : tie.InvT-loop
+Inv-loop table₀ c r step rows held i₀ table i = (i ≤ 128) × Marking table₀ c r step rows held i table
+
+abbrev μ-loop : tie.MeasureT-loop
+μ-loop table₀ c r step rows held i₀ table i = rows - i
+
+loop-holds : tie.Need-loop-holds Inv-loop μ-loop
+loop-holds c = (omega arith, marking-none _ _ _ _ _ _)
+
+loop-again : tie.Need-loop-again Inv-loop μ-loop
+loop-again c =
+    (omega arith, marking-more (c .before .loop .inv .1) (omega arith) (omega arith) (omega arith) (omega arith) (c .before .before .pre .1))
+
+returns : tie.Need-returns Inv-loop μ-loop
+returns c = marking-all (c .before .loop .inv .1) (omega arith)
+
+pub mark-spec : {M : Type 1} → statement M
+mark-spec =
+    tie.close
+    (tie.spec
+    Inv-loop
+    μ-loop
+    loop-holds
+    (λ c. search needs)
+    (λ c. search needs)
+    (λ c. search needs)
+    (λ c. search needs)
+    (λ c. search needs)
+    loop-again
+    returns)

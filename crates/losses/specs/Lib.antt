@@ -1,0 +1,4 @@
+pub mod Losses
+pub mod Answer
+pub mod Promise
+pub mod Parts

@@ -1,0 +1,52 @@
+-- Where the bus time of one matrix cycle goes: five figures, each by its own rule, over the sends and the cells of one matrix cycle.
+use Prim.Native.Nat.{ℕ, _+_, _*_, _-_}
+use mathlib.Core.Bool.{Bool, _&&_, _||_, not}
+use mathlib.Core.List.{List}
+use lib.Dec.{leb, ltb, eqb}
+use Rattle.basics.specs.Sums.{sum, only}
+use Rattle.basics.specs.Tests.{some}
+use Rattle.rules.specs.Problem.{rows, cycle, refLen, columns, messages, start, width, size, frame}
+use Rattle.rules.specs.Sends.{sendAt}
+
+-- how long a matrix cycle is
+abbrev pub matrix : List ℕ → ℕ
+matrix p = rows p * cycle p
+
+-- ---- reference: R · f
+abbrev pub reference : List ℕ → ℕ
+reference p = rows p * refLen p
+
+-- ---- used: the sum of C over all sends that start in the cycle (a send that does is one of the first R of its message)
+unfoldable pub used : List ℕ → List ℕ → ℕ
+used p w = sum (messages p) (λ j. sum (rows p) (λ n. only (ltb (sendAt p w j n) (matrix p)) (frame (size p j))))
+
+-- ---- the cells: a send of message j starts at the cell of row i and column c; a cell is occupied if some send starts there
+unfoldable pub startsAt : List ℕ → List ℕ → ℕ → ℕ → ℕ → Bool
+startsAt p w j i c = some (rows p) (λ n. eqb (sendAt p w j n) (i * cycle p + start p c))
+
+unfoldable pub occupied : List ℕ → List ℕ → ℕ → ℕ → Bool
+occupied p w i c = some (messages p) (λ j. startsAt p w j i c)
+
+abbrev pub overCells : List ℕ → (ℕ → ℕ → ℕ) → ℕ
+overCells p f = sum (rows p) (λ i. sum (columns p) (f i))
+
+-- ---- in-window: the sum of width minus C over occupied cells, C that of the send that starts there
+unfoldable pub inWindow : List ℕ → List ℕ → ℕ
+inWindow p w = overCells p (λ i c. sum (messages p) (λ j. only (startsAt p w j i c) (width p c - frame (size p j))))
+
+-- ---- empty: the widths of unoccupied cells
+unfoldable pub empty : List ℕ → List ℕ → ℕ
+empty p w = overCells p (λ i c. only (not (occupied p w i c)) (width p c))
+
+-- ---- gaps: R times what neither reference nor columns cover of a row
+unfoldable pub inColumn : List ℕ → ℕ → ℕ → Bool
+inColumn p y c = leb (start p c) y && ltb y (start p c + width p c)
+
+unfoldable pub covered : List ℕ → ℕ → Bool
+covered p y = ltb y (refLen p) || some (columns p) (inColumn p y)
+
+unfoldable pub uncovered : List ℕ → ℕ
+uncovered p = sum (cycle p) (λ y. only (not (covered p y)) 1)
+
+abbrev pub gaps : List ℕ → ℕ
+gaps p = rows p * uncovered p
