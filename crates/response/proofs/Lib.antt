@@ -1,0 +1,9 @@
+pub mod Faults
+pub mod Refusals
+pub mod Queue
+pub mod Waiting
+pub mod Loops
+pub mod Filling
+pub mod Outcomes
+pub mod Computed
+pub mod Worked

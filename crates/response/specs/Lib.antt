@@ -1,0 +1,4 @@
+pub mod Events
+pub mod Times
+pub mod Answers
+pub mod Parts
