@@ -1,0 +1,5 @@
+pub mod Meets
+pub mod Covering
+pub mod Tables
+pub mod Passed
+pub mod Counting

@@ -1,0 +1,131 @@
+-- What the search knows at each place that it comes to, and that what it finds is the least.
+use Prim.Native.Nat.{ℕ, _+_, _*_, _<_, _≤_}
+use mathlib.Core.Path.{_≡_, sym, ap, _∙_}
+use mathlib.Core.Bool.{Bool, true, false, not}
+use mathlib.Core.List.{List}
+use mathlib.Core.Logic.{_⊎_, inl, inr, ⊎-elim}
+use native.Mathlib.Nat.{eq-or-lt-of-le}
+use native.Mathlib.Omega.{arith}
+use borrow.Author.Count.{below-more}
+use lib.ListN.{length}
+use Rattle.basics.specs.Bits.{Has}
+use Rattle.basics.proofs.Tests.{not-both, T-true, at-none, every-off}
+use Rattle.rules.specs.declared.Fault.the-variants.{Clear}
+use Rattle.rules.specs.declared.Refusal.the-variants.{Meeting}
+use Rattle.rules.specs.Problem.{columns, messages, repeat, column, row}
+use Rattle.rules.specs.Tests.{ownFault, meets, clear, fault}
+use Rattle.rules.proofs.Faults.{clear-both, clear-test}
+use Rattle.rules.proofs.Prefix.{same-fault}
+use Rattle.lookahead.specs.Cells.{Stand, Allowed}
+use Rattle.lookahead.proofs.Meets.{own-placed, fault-own}
+use Rattle.planner.specs.Order.{Agree, Before}
+use Rattle.planner.specs.Search.{put, Best, Nowhere}
+use Rattle.planner.proofs.Order.{places, agree-refl, agree-sym, agree-trans, agree-less, put-keeps, put-column, put-row, put-agree}
+
+-- a message's fault goes by the placements up to it
+pub fault-agree : (p : List ℕ) {v w : List ℕ} (j : ℕ) → Agree v w (j + 1) → fault p v j ≡ fault p w j
+fault-agree p {v} {w} j g = same-fault p v w j λ i l. record { column-is = g .columns-same i (omega arith); row-is = g .rows-same i (omega arith) }
+
+-- ---- whether message j meets an earlier one
+pub clear-off : (p w : List ℕ) (i j : ℕ) → i < j → meets p w i j ≡ true → false ≡ clear p w j
+unfolding clear
+clear-off p w i j l e = sym (every-off j i (λ i. not (meets p w i j)) l (rw e))
+
+pub clear-on : (p w : List ℕ) (j : ℕ) → ((i : ℕ) → i < j → meets p w i j ≡ false) → true ≡ clear p w j
+unfolding clear
+clear-on p w j h = sym (T-true _ (at-none j (λ i. meets p w i j) h))
+
+-- ---- message k at column c and base row r
+module _ (p v : List ℕ) (k c r : ℕ) where
+  put-own : 2 * k + 1 < length v → fault p (put v k c r) k ≡ Clear → ownFault p k c r ≡ Clear
+  put-own room e = rw (put-column v k c r room, put-row v k c r room) at (fault-own p (put v k c r) k e)
+
+  put-clear : fault p (put v k c r) k ≡ Clear → clear p (put v k c r) k ≡ true
+  unfolding fault
+  put-clear e = clear-test (clear p (put v k c r) k) (Meeting k) (clear-both (ownFault p k (column (put v k c r) k) (row (put v k c r) k)) _ e .1)
+
+  put-fault : 2 * k + 1 < length v → ownFault p k c r ≡ Clear → clear p (put v k c r) k ≡ true → fault p (put v k c r) k ≡ Clear
+  unfolding fault
+  put-fault room e t = rw (put-column v k c r room, put-row v k c r room, e, t)
+
+  pub put-stood : Stand p k v → fault p (put v k c r) k ≡ Clear → Stand p (k + 1) (put v k c r)
+  put-stood S e = record {
+    each = below-more _ k (λ j l. sym (fault-agree p j (agree-less (j + 1) (omega arith) (put-keeps v k c r))) ∙ S .each j l) e;
+  }
+
+  -- where it stands by itself and meets no earlier message
+  pub put-stands : {w : List ℕ} {b : Bool} → 2 * k + 1 < length v → w ≡ put v k c r → Stand p k v → ownFault p k c r ≡ Clear → b ≡ clear p w k
+      → b ≡ true → Stand p (k + 1) w
+  put-stands room e S o h t = rw e (put-stood S (put-fault room o (ap (λ (x : List ℕ). clear p x k) (sym e) ∙ sym h ∙ t)))
+
+-- ---- nothing without a fault that begins with v's first k has message k before column c and base row r
+pub record Gone (p : List ℕ) (k : ℕ) (v : List ℕ) (c r : ℕ) : Type 0 where
+  pub none : (w : List ℕ) → Stand p (messages p) w → Agree v w k → Before (column w k) (row w k) c r → ⊥
+
+module _ (p : List ℕ) (k : ℕ) (v : List ℕ) where
+  pub gone-start : Gone p k v 0 0
+  gone-start = record { none = λ w S g b. ⊎-elim (λ l. omega arith) (λ q. let l = q .1 in omega arith) b }
+
+  next : (c r : ℕ) → Gone p k v c r → ((w : List ℕ) → Stand p (messages p) w → Agree v w k → column w k ≡ c → row w k ≡ r → ⊥) → Gone p k v c (r + 1)
+  next c r G here = record {
+    none = λ w S g b. ⊎-elim
+        (λ l. G .none w S g (inl l))
+        (λ q. ⊎-elim (λ e. here w S g (q .0) e) (λ l. G .none w S g (inr (q .0, l))) (eq-or-lt-of-le {n = row w k} {m = r} (let l = q .1 in omega arith)))
+        b;
+  }
+
+  -- a place with a fault
+  pub gone-shut : (c r : ℕ) → k < messages p → 2 * k + 1 < length v → (fault p (put v k c r) k ≡ Clear → ⊥) → Gone p k v c r → Gone p k v c (r + 1)
+  gone-shut c r h room f G = next c r G λ w S g ec er. f (fault-agree p k (put-agree v k c r room g ec er) ∙ S .each k h)
+
+  -- a place where message k may not stand by itself
+  pub gone-closed : (c r : ℕ) {x : ℕ} → k < messages p → 2 * k + 1 < length v → Allowed p k r x → (Has x c → ⊥) → Gone p k v c r → Gone p k v c (r + 1)
+  gone-closed c r h room A n = gone-shut c r h room λ f. n (A .holds c (put-own p v k c r room f))
+
+  -- a place where it meets an earlier message
+  pub gone-met : (c r : ℕ) {w : List ℕ} {b : Bool} → k < messages p → 2 * k + 1 < length v → w ≡ put v k c r → b ≡ clear p w k → b ≡ false
+      → Gone p k v c r → Gone p k v c (r + 1)
+  gone-met c r h room e q n = gone-shut c r h room λ f. not-both (put-clear p v k c r f) (ap (λ (x : List ℕ). clear p x k) (sym e) ∙ sym q ∙ n)
+
+  -- a place behind which nothing was found
+  pub gone-tried : (c r : ℕ) {w : List ℕ} → 2 * k + 1 < length v → w ≡ put v k c r → Nowhere p (k + 1) w → Gone p k v c r → Gone p k v c (r + 1)
+  gone-tried c r {w} room e N G = next c r G λ u S g ec er. N .none u S (rw e (put-agree v k c r room g ec er))
+
+  -- a column's last place
+  pub gone-column : (c r : ℕ) → k < messages p → repeat p k ≤ r → Gone p k v c r → Gone p k v (c + 1) 0
+  gone-column c r h end G = record {
+    none = λ w S g b. ⊎-elim
+        (λ l. ⊎-elim
+        (λ e. let low = own-placed p k _ _ (fault-own p w k (S .each k h)) .row-below in G .none w S g (inr (e, omega arith)))
+        (λ m. G .none w S g (inl m))
+        (eq-or-lt-of-le {n = column w k} {m = c} (omega arith)))
+        (λ q. let l = q .1 in omega arith)
+        b;
+  }
+
+  pub gone-all : (c : ℕ) → k < messages p → columns p ≤ c → Gone p k v c 0 → Nowhere p k v
+  gone-all c h end G = record {
+    none = λ w S g. let low = own-placed p k _ _ (fault-own p w k (S .each k h)) .column-below in G .none w S g (inl (omega arith));
+  }
+
+  -- the least behind the first place that is not gone is the least of all
+  pub found : (c r : ℕ) {w u : List ℕ} → k < messages p → 2 * k + 1 < length v → w ≡ put v k c r → Best p (k + 1) w u → Gone p k v c r → Best p k v u
+  found c r {w} {u} h room e F G =
+      let B : Best p (k + 1) (put v k c r) u = rw e at F in
+      let kept = agree-trans (put-keeps v k c r) (agree-less k (omega arith) (B .begins)) in
+      let ec : column u k ≡ c = sym (B .begins .columns-same k (omega arith)) ∙ put-column v k c r room in
+      let er : row u k ≡ r = sym (B .begins .rows-same k (omega arith)) ∙ put-row v k c r room in
+      record {
+        begins = kept;
+        stands = B .stands;
+        least = λ w S g. ⊎-elim
+            (λ b. absurd (G .none w S g b))
+            (⊎-elim
+            (λ q. B .least w S (put-agree v k c r room g (q .0) (q .1)))
+            (λ b. inr record { message = k; below = h; agree = agree-trans (agree-sym kept) g; before = rw (ec, er) b }))
+            (places (column w k) (row w k) c r);
+      }
+
+  -- all messages are placed
+  pub whole : messages p ≤ k → Stand p k v → Best p k v v
+  whole h S = record { begins = agree-refl v k; stands = record { each = λ j l. S .each j (omega arith) }; least = λ w T g. inl (agree-less (messages p) h g) }

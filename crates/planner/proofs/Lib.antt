@@ -1,0 +1,7 @@
+pub mod Order
+pub mod Gone
+pub mod Room
+pub mod Least
+pub mod Promise
+pub mod Unique
+pub mod Seek

@@ -1,0 +1,126 @@
+-- Laws of the order of proposals: of two one is not after the other, and only equal ones are both.
+use Prim.Native.Nat.{ℕ, _+_, _*_, _/_, _%_, _<_, _≤_}
+use mathlib.Core.Path.{_≡_, refl, sym, _∙_}
+use mathlib.Core.List.{List}
+use mathlib.Core.Logic.{_⊎_, inl, inr, ⊎-elim}
+use native.Mathlib.Nat.{eq-or-lt-of-le}
+use native.Mathlib.Omega.{arith}
+use borrow.Author.Count.{below-more}
+use lib.ListN.{length, getD, set, length-set}
+use lib.Seq.{getD-set-same, getD-set-other, ext-getD}
+use Rattle.rules.specs.Problem.{column, row}
+use Rattle.lookahead.proofs.Meets.{below-or}
+use Rattle.planner.specs.Order.{Agree, Before, NotAfter}
+use Rattle.planner.specs.Search.{put}
+
+-- ---- places
+-- of two places one is before the other, or they are the same
+pub places : (a b c r : ℕ) → Before a b c r ⊎ (((a ≡ c) × (b ≡ r)) ⊎ Before c r a b)
+places a b c r =
+    ⊎-elim
+    (λ h. inl (inl h))
+    (λ h. ⊎-elim
+    (λ e. ⊎-elim
+    (λ l. inl (inr (sym e, l)))
+    (λ l. ⊎-elim (λ q. inr (inl (sym e, sym q))) (λ q. inr (inr (inr (e, q)))) (eq-or-lt-of-le l))
+    (below-or b r))
+    (λ l. inr (inr (inl l)))
+    (eq-or-lt-of-le h))
+    (below-or a c)
+
+before-asym : (a b c r : ℕ) → Before a b c r → Before c r a b → ⊥
+before-asym a b c r (inl x) (inl y) = omega arith
+before-asym a b c r (inl x) (inr y) = omega arith
+before-asym a b c r (inr x) (inl y) = omega arith
+before-asym a b c r (inr x) (inr y) = omega arith
+
+not-before : (a b c r : ℕ) → a ≡ c → b ≡ r → Before a b c r → ⊥
+not-before a b c r p q (inl x) = omega arith
+not-before a b c r p q (inr x) = omega arith
+
+-- ---- agreement
+pub agree-refl : (v : List ℕ) (k : ℕ) → Agree v v k
+agree-refl v k = record { columns-same = λ j l. refl; rows-same = λ j l. refl }
+
+pub agree-none : (v w : List ℕ) → Agree v w 0
+agree-none v w = record { columns-same = λ j l. absurd (omega arith); rows-same = λ j l. absurd (omega arith) }
+
+pub agree-sym : {v w : List ℕ} {k : ℕ} → Agree v w k → Agree w v k
+agree-sym a = record { columns-same = λ j l. sym (a .columns-same j l); rows-same = λ j l. sym (a .rows-same j l) }
+
+pub agree-trans : {u v w : List ℕ} {k : ℕ} → Agree u v k → Agree v w k → Agree u w k
+agree-trans a b = record {
+  columns-same = λ j l. a .columns-same j l ∙ b .columns-same j l;
+  rows-same = λ j l. a .rows-same j l ∙ b .rows-same j l;
+}
+
+pub agree-less : {v w : List ℕ} {k : ℕ} (m : ℕ) → m ≤ k → Agree v w k → Agree v w m
+agree-less m h a = record {
+  columns-same = λ j l. a .columns-same j (omega arith);
+  rows-same = λ j l. a .rows-same j (omega arith);
+}
+
+pub agree-more : {v w : List ℕ} {k : ℕ} → Agree v w k → column v k ≡ column w k → row v k ≡ row w k → Agree v w (k + 1)
+agree-more {v} {w} {k} a c r = record { columns-same = below-more _ k (a .columns-same) c; rows-same = below-more _ k (a .rows-same) r }
+
+-- two proposals of n messages that agree are equal
+pub agree-eq : (n : ℕ) (v w : List ℕ) → length v ≡ 2 * n → length w ≡ 2 * n → Agree v w n → v ≡ w
+agree-eq n v w lv lw g = ext-getD 0 v w (lv ∙ sym lw) λ i l.
+    ⊎-elim
+    (λ h. let e : i ≡ 2 * (i / 2) = omega arith in rw e (g .columns-same (i / 2) (omega arith)))
+    (λ h. let e : i ≡ 2 * (i / 2) + 1 = omega arith in rw e (g .rows-same (i / 2) (omega arith)))
+    (below-or (i % 2) 1)
+
+-- ---- the order
+pub antisym : (n : ℕ) (v w : List ℕ) → NotAfter n v w → NotAfter n w v → Agree v w n
+antisym n v w (inl a) y = a
+antisym n v w (inr f) (inl b) = agree-sym b
+antisym n v w (inr f) (inr g) =
+    let j = f .message in
+    let i = g .message in
+    absurd (⊎-elim
+    (λ l. not-before _ _ _ _ (sym (f .agree .columns-same i l)) (sym (f .agree .rows-same i l)) (g .before))
+    (λ l. ⊎-elim
+    (λ e. before-asym _ _ _ _ (f .before) (rw e (g .before)))
+    (λ m. not-before _ _ _ _ (sym (g .agree .columns-same j m)) (sym (g .agree .rows-same j m)) (f .before))
+    (eq-or-lt-of-le l))
+    (below-or i j))
+
+-- it goes by the placements
+pub not-after-agree : {v w : List ℕ} (x : List ℕ) {n : ℕ} → Agree v w n → NotAfter n v x → NotAfter n w x
+not-after-agree x g (inl a) = inl (agree-trans (agree-sym g) a)
+not-after-agree x {n} g (inr f) =
+    let j = f .message in
+    let l = f .below in
+    inr record {
+      message = j;
+      below = l;
+      agree = agree-trans (agree-sym (agree-less j (omega arith) g)) (f .agree);
+      before = rw (← g .columns-same j l, ← g .rows-same j l) (f .before);
+    }
+
+-- ---- message k placed at column c and base row r
+module _ (v : List ℕ) (k c r : ℕ) where
+  put-other : (i : ℕ) → i < 2 * k → getD v i 0 ≡ getD (put v k c r) i 0
+  put-other i l =
+      sym (getD-set-other (set v (2 * k) c) (2 * k + 1) i r 0 (omega arith) ∙ getD-set-other v (2 * k) i c 0 (omega arith))
+
+  pub put-keeps : Agree v (put v k c r) k
+  put-keeps = record {
+    columns-same = λ j l. put-other (2 * j) (omega arith);
+    rows-same = λ j l. put-other (2 * j + 1) (omega arith);
+  }
+
+  module _ (room : 2 * k + 1 < length v) where
+    pub put-column : column (put v k c r) k ≡ c
+    put-column =
+        getD-set-other (set v (2 * k) c) (2 * k + 1) (2 * k) r 0 (omega arith)
+        ∙ getD-set-same v (2 * k) c 0 (omega arith)
+
+    pub put-row : row (put v k c r) k ≡ r
+    put-row = getD-set-same (set v (2 * k) c) (2 * k + 1) r 0 (simp length-set room)
+
+    -- what begins with v's first k, and has message k there, begins with these k + 1
+    pub put-agree : {w : List ℕ} → Agree v w k → column w k ≡ c → row w k ≡ r → Agree (put v k c r) w (k + 1)
+    put-agree a ec er =
+        agree-more (agree-trans (agree-sym put-keeps) a) (put-column ∙ sym ec) (put-row ∙ sym er)
