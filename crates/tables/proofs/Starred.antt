@@ -1,0 +1,156 @@
+-- The starred cases, proved together: one computed test over the table, and one law that turns it into the statement at each case.
+use Prim.Native.Nat.{ℕ, _+_, _*_}
+use mathlib.Core.Path.{_≡_, refl, ap, ap₂}
+use mathlib.Core.Bool.{Bool, true, false, _&&_}
+use mathlib.Core.List.{List, [], _∷_, _++_, List·Memᴰ, List·Memᴰ·cases-cons, List·Memᴰ·not-nil}
+use mathlib.Core.Logic.{⊎-elim}
+use mathlib.Core.Option.{Option, some, none}
+use native.Mathlib.Omega.{arith}
+use lib.Dec.{T, eqb, eqb→eq}
+use lib.ListN.{length, drop, replicate, length-replicate}
+use Rattle.basics.specs.Bits.{bit}
+use Rattle.basics.specs.Sums.{sum, largest}
+use Rattle.basics.specs.Tests.{every, some as someOf}
+use Rattle.basics.proofs.Tests.{left, right}
+use Rattle.rules.specs.declared.Fault.{Fault}
+use Rattle.rules.specs.declared.Fault.the-variants.{Clear, Bad}
+use Rattle.rules.specs.Problem.{messages, earliest, triggers, frame}
+use Rattle.rules.specs.Sends.{sendAt}
+use Rattle.rules.specs.Refusal.{firstFault}
+use Rattle.rules.specs.Rules.{headerWrong, columnWrong, repeated, identityWrong, onGrid, timingWrong, overloaded, wellFormed}
+use Rattle.rules.specs.Tests.{inRange, fits, wait, timely, common, meets, clear, ownFault, fault, proposalFault}
+use Rattle.rules.proofs.Exact.{exact}
+use Rattle.rules.proofs.Formed.{formed}
+use Rattle.problem.specs.Answers.{numberFor, placeFor}
+use Rattle.planner.proofs.Seek.{run, run-least, run-none}
+use Rattle.losses.specs.Losses.{reference, used, startsAt, occupied, inWindow, empty, inColumn, covered, uncovered, gaps}
+use Rattle.losses.proofs.Sum.{losses-sum}
+use Rattle.response.specs.Answers.{zeros}
+use Rattle.response.specs.Events.{count, repeated as repeatedEvent, eventWrong, eventsFault}
+use Rattle.response.proofs.Computed.{seek as seekTime, time, times, computed}
+use Rattle.tables.specs.Cases.{Case, lasts, plans, plans-none, loses, accepts, refuses, responds, Says}
+use Rattle.tables.specs.Starred.{t1, two, none as noMessage, events, starred}
+
+-- ---- tests
+unfoldable same : List ℕ → List ℕ → Bool
+same [] [] = true
+same [] (y ∷ m) = false
+same (x ∷ l) [] = false
+same (x ∷ l) (y ∷ m) = eqb x y && same l m
+
+same-is : (l m : List ℕ) → T (same l m) → l ≡ m
+unfolding same
+same-is [] [] t = refl
+same-is [] (y ∷ m) t = absurd t
+same-is (x ∷ l) [] t = absurd t
+same-is (x ∷ l) (y ∷ m) t = ap₂ _∷_ (eqb→eq x y (left (eqb x y) (same l m) t)) (same-is l m (right (eqb x y) (same l m) t))
+
+abbrev isClear : Fault → Bool
+isClear Clear = true
+isClear (Bad q) = false
+
+clear-is : (f : Fault) → T (isClear f) → f ≡ Clear
+clear-is Clear t = refl
+clear-is (Bad q) t = absurd t
+
+abbrev is : Option (List ℕ) → List ℕ → Bool
+is (some u) w = same u w
+is none w = false
+
+is-some : (o : Option (List ℕ)) (w : List ℕ) → T (is o w) → o ≡ some w
+is-some (some u) w t = ap some (same-is u w t)
+is-some none w t = absurd t
+
+abbrev isNone : Option (List ℕ) → Bool
+isNone (some u) = false
+isNone none = true
+
+none-is : (o : Option (List ℕ)) → T (isNone o) → o ≡ none
+none-is (some u) t = absurd t
+none-is none t = refl
+
+-- ---- the test of a case, and the law
+unfoldable holds : Case → Bool
+holds (lasts s c) = eqb (frame s) c
+holds (plans p w) = wellFormed p && (eqb (length w) (2 * messages p) && is (run p) w)
+holds (plans-none p) = wellFormed p && isNone (run p)
+holds (loses p w a b c d e) =
+    wellFormed p && (isClear (proposalFault p w) && (eqb (reference p) a && (eqb (used p w) b && (eqb (inWindow p w) c && (eqb (empty p w) d && eqb (gaps p) e)))))
+holds (accepts p w) = wellFormed p && isClear (proposalFault p w)
+holds (refuses p w n j) = wellFormed p && (eqb (numberFor (proposalFault p w)) n && eqb (placeFor (proposalFault p w)) j)
+holds (responds e t m) =
+    isClear (eventsFault e) && (same (times e ++ drop (count e) (replicate (count e) 0)) t && eqb (zeros (times e) (count e)) m)
+
+holds-says : (x : Case) → T (holds x) → Says x
+unfolding holds
+holds-says (lasts s c) t = eqb→eq _ _ t
+holds-says (plans p w) t =
+    let words : Bool = eqb (length w) (2 * messages p) in
+    let wf = formed p .0 (left (wellFormed p) (words && is (run p) w) t) in
+    let t₁ = right (wellFormed p) (words && is (run p) w) t in
+    (wf, run-least p w wf (is-some (run p) w (right words (is (run p) w) t₁)) (eqb→eq _ _ (left words (is (run p) w) t₁)))
+holds-says (plans-none p) t =
+    let wf = formed p .0 (left (wellFormed p) (isNone (run p)) t) in
+    (wf, run-none p wf (none-is (run p) (right (wellFormed p) (isNone (run p)) t)))
+holds-says (loses p w a b c d e) t =
+    let wf = formed p .0 (left (wellFormed p) _ t) in
+    let t₁ = right (wellFormed p) _ t in
+    let t₂ = right (isClear (proposalFault p w)) _ t₁ in
+    let t₃ = right (eqb (reference p) a) _ t₂ in
+    let t₄ = right (eqb (used p w) b) _ t₃ in
+    let t₅ = right (eqb (inWindow p w) c) _ t₄ in
+    let fine = clear-is (proposalFault p w) (left (isClear (proposalFault p w)) _ t₁) in
+    let ea = eqb→eq (reference p) a (left (eqb (reference p) a) _ t₂) in
+    let eb = eqb→eq (used p w) b (left (eqb (used p w) b) _ t₃) in
+    let ec = eqb→eq (inWindow p w) c (left (eqb (inWindow p w) c) _ t₄) in
+    let ed = eqb→eq (empty p w) d (left (eqb (empty p w) d) (eqb (gaps p) e) t₅) in
+    let ee = eqb→eq (gaps p) e (right (eqb (empty p w) d) (eqb (gaps p) e) t₅) in
+    record {
+      formed = wf;
+      reference-is = ea;
+      used-is = eb;
+      in-window-is = ec;
+      empty-is = ed;
+      gaps-is = ee;
+      sum-is = omega (arith, losses-sum {p = p} {w = w} (record { formed = wf; faultless = fine }));
+    }
+holds-says (accepts p w) t =
+    let wf = formed p .0 (left (wellFormed p) (isClear (proposalFault p w)) t) in
+    let a = exact p w wf .0 (clear-is (proposalFault p w) (right (wellFormed p) (isClear (proposalFault p w)) t)) in
+    (wf, a .0, a .1)
+holds-says (refuses p w n j) t =
+    let x : ℕ = numberFor (proposalFault p w) in
+    let y : ℕ = placeFor (proposalFault p w) in
+    let t₁ = right (wellFormed p) (eqb x n && eqb y j) t in
+    (formed p .0 (left (wellFormed p) (eqb x n && eqb y j) t), eqb→eq x n (left (eqb x n) (eqb y j) t₁), eqb→eq y j (right (eqb x n) (eqb y j) t₁))
+holds-says (responds e t m) h =
+    let d : List ℕ = replicate (count e) 0 in
+    let x : List ℕ = times e ++ drop (count e) d in
+    let z : ℕ = zeros (times e) (count e) in
+    let h₁ = right (isClear (eventsFault e)) (same x t && eqb z m) h in
+    computed e d (omega (arith, length-replicate {A = ℕ} (count e) 0)) (clear-is (eventsFault e) (left (isClear (eventsFault e)) (same x t && eqb z m) h))
+    (same-is x t (left (same x t) (eqb z m) h₁)) (eqb→eq z m (right (same x t) (eqb z m) h₁))
+
+-- ---- the table
+unfoldable all-hold : List Case → Bool
+all-hold [] = true
+all-hold (x ∷ l) = holds x && all-hold l
+
+each : (l : List Case) → T (all-hold l) → (x : Case) → List·Memᴰ x l → Says x
+unfolding all-hold
+each [] t x m = absurd (List·Memᴰ·not-nil m)
+each (y ∷ l) t x m =
+    ⊎-elim
+    (λ e. rw e (holds-says y (left (holds y) (all-hold l) t)))
+    (λ n. each l (right (holds y) (all-hold l) t) x n)
+    (List·Memᴰ·cases-cons m)
+
+table-holds : T (all-hold starred)
+unfolding all-hold starred holds t1 two noMessage events same wellFormed headerWrong columnWrong earliest identityWrong repeated timingWrong onGrid overloaded triggers every someOf sum bit
+    proposalFault firstFault fault ownFault inRange fits wait timely clear meets common used sendAt startsAt occupied inWindow empty inColumn covered uncovered
+    eventsFault eventWrong repeatedEvent largest seekTime time times
+table-holds = tt
+
+-- every starred case of document 01 says what is true
+pub starred-true : (x : Case) → List·Memᴰ x starred → Says x
+starred-true = each starred table-holds

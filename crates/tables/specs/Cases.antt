@@ -1,0 +1,47 @@
+-- What a starred case says: a statement about the definitions that the promises cite, never about code.
+use Prim.Native.Nat.{ℕ, _+_}
+use mathlib.Core.Path.{_≡_}
+use mathlib.Core.List.{List}
+use lib.ListN.{replicate}
+use Rattle.rules.specs.Problem.{frame, InRange, WellFormed}
+use Rattle.rules.specs.Sends.{Acceptable}
+use Rattle.rules.specs.Tests.{proposalFault}
+use Rattle.problem.specs.Answers.{numberFor, placeFor}
+use Rattle.losses.specs.Losses.{matrix, reference, used, inWindow, empty, gaps}
+use Rattle.planner.specs.Least.{Plan, Least}
+use Rattle.response.specs.declared.Responded.the-variants.{Done}
+use Rattle.response.specs.Answers.{Outcome}
+use Rattle.response.specs.Events.{count}
+
+pub data Case : Type 0 where
+  -- a frame of s data bytes takes c
+  lasts : (s c : ℕ) → Case
+  -- w is the least acceptable proposal of p; p has none
+  plans : (p w : List ℕ) → Case
+  plans-none : (p : List ℕ) → Case
+  -- the proposal w for p loses so much in the reference, uses so much, loses so much in windows, in empty cells and in gaps
+  loses : (p w : List ℕ) (a b c d e : ℕ) → Case
+  -- the proposal w for p is acceptable; it is refused with a number and a place
+  accepts : (p w : List ℕ) → Case
+  refuses : (p w : List ℕ) (n j : ℕ) → Case
+  -- for the events e the words t are written, and m are missed
+  responds : (e t : List ℕ) (m : ℕ) → Case
+
+-- the five figures and their sum
+pub record Lost (p w : List ℕ) (a b c d e : ℕ) : Type 0 where
+  pub formed : WellFormed p
+  pub reference-is : reference p ≡ a
+  pub used-is : used p w ≡ b
+  pub in-window-is : inWindow p w ≡ c
+  pub empty-is : empty p w ≡ d
+  pub gaps-is : gaps p ≡ e
+  pub sum-is : a + b + c + d + e ≡ matrix p
+
+abbrev pub Says : Case → Type 0
+Says (lasts s c) = frame s ≡ c
+Says (plans p w) = WellFormed p × Least p w
+Says (plans-none p) = WellFormed p × ((w : List ℕ) → ¬ Plan p w)
+Says (loses p w a b c d e) = Lost p w a b c d e
+Says (accepts p w) = WellFormed p × InRange p w × Acceptable p w
+Says (refuses p w n j) = WellFormed p × (numberFor (proposalFault p w) ≡ n) × (placeFor (proposalFault p w) ≡ j)
+Says (responds e t m) = Outcome e (replicate (count e) 0) t (Done m)
