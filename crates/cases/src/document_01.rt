@@ -1,0 +1,201 @@
+// Document 01: the plans worked by hand, and the slips.
+use crate::build;
+use crate::show;
+ghost use Prim.Native.Nat.{_≤_};
+ghost use lib.ListN.{length};
+
+// T1: two rows of 400 with three columns, and three messages. Its word 26 is message 32's deadline, its word 32 message 48's offset.
+fn t1(words: &mut [u32]) -> usize
+    ensures { λ r. ⌜ r ≤ length (now (words .exit)) ⌝ }
+{
+    build::problem(
+        b"2 400 65 1 32 3 3",
+        b"65 135  200 100  300 100",
+        b"16 0 8 2 400   0 400
+          32 1 1 1 800 400 300
+          48 1 4 1 800   0 800",
+        words,
+    )
+}
+
+// A frame takes 55 NTU and 10 for each data byte: that is the response time of an event that is alone.
+fn lengths() {
+    show::responses(
+        b"0 data bytes alone on the bus",
+        b"1 0 1000 0 1000",
+        b"55",
+        0,
+    );
+    show::responses(
+        b"1 data byte alone on the bus",
+        b"1 1 1000 0 1000",
+        b"65",
+        0,
+    );
+    show::responses(
+        b"8 data bytes alone on the bus",
+        b"1 8 1000 0 1000",
+        b"135",
+        0,
+    );
+}
+
+// T1's lists, word by word.
+fn t1_lists(problem: &[u32]) {
+    show::lists(
+        b"T1 and its plan",
+        problem,
+        b"0 0 1 1 1 0",
+        104,
+        b"4 4 1 1 1 1 1 1 1 1 1 1 1 1 1 1
+          1 0 0 1  65552 65 0 1  131120 200 0 2  131104 200 1 2
+          1 0 0 1  131088 65 0 1  65584 200 0 2  65568 200 1 2
+          1 0 0 1  1 0 0 1  1 0 0 1  1 0 0 1  1 0 0 1  1 0 0 1  1 0 0 1
+          1 0 0 1  1 0 0 1  1 0 0 1  1 0 0 1  1 0 0 1  1 0 0 1  1 0 0 1",
+    );
+}
+
+// T1 as it stands, and a proposal that lets two messages meet.
+fn first() {
+    let mut p = [0u32; 519];
+    let n = t1(&mut p);
+    show::round_trip(b"T1", &p[0..n]);
+    show::plan(b"T1", &p[0..n], 0, b"0 0 1 1 1 0");
+    show::check(b"T1 and its plan", &p[0..n], b"0 0 1 1 1 0", 0, 0);
+    show::losses(
+        b"T1 and its plan",
+        &p[0..n],
+        b"0 0 1 1 1 0",
+        b"130 430 40 200 0",
+    );
+    t1_lists(&p[0..n]);
+    show::check(b"T1 and 0 0 1 1 1 1", &p[0..n], b"0 0 1 1 1 1", 13, 2);
+}
+
+// Message 32 can be sent by 265 after its release and no earlier.
+fn deadlines() {
+    let mut p = [0u32; 519];
+    let n = t1(&mut p);
+    build::set(&mut p, 26, 265);
+    show::plan(
+        b"T1 with deadline 265 for message 32",
+        &p[0..n],
+        0,
+        b"0 0 1 1 1 0",
+    );
+    build::set(&mut p, 26, 264);
+    show::plan(b"T1 with deadline 264 for message 32", &p[0..n], 14, b"");
+}
+
+// T1's grid with no messages.
+fn no_messages() {
+    let mut p = [0u32; 519];
+    let n = build::problem(
+        b"2 400 65 1 32 3 0",
+        b"65 135  200 100  300 100",
+        b"",
+        &mut p,
+    );
+    show::check(b"no messages and the empty proposal", &p[0..n], b"", 0, 0);
+    show::check(
+        b"no messages and a proposal of two words",
+        &p[0..n],
+        b"0 0",
+        9,
+        0,
+    );
+    show::plan(b"no messages", &p[0..n], 0, b"");
+}
+
+// The events of the table, and a deadline that is one short of the response.
+fn events() {
+    show::responses(
+        b"three events of 8 bytes",
+        b"1 8 337 0 337  2 8 475 0 475  3 8 475 0 440",
+        b"270 405 405",
+        0,
+    );
+    show::responses(
+        b"the third with deadline 404",
+        b"1 8 337 0 337  2 8 475 0 475  3 8 475 0 404",
+        b"270 405 0",
+        1,
+    );
+}
+
+// First fit places the message of 4 bytes in the one column that has room for the other.
+fn first_fit() {
+    let mut p = [0u32; 519];
+    let n = build::problem(
+        b"2 400 65 1 32 3 2",
+        b"65 135  200 100  300 100",
+        b"16 0 4 2 400 0 400
+          32 0 8 2 400 0 400",
+        &mut p,
+    );
+    show::plan(
+        b"4 bytes, then 8 bytes, on T1's grid",
+        &p[0..n],
+        0,
+        b"1 0 0 0",
+    );
+}
+
+// A send before the first release carries nothing, and the next one serves; rows are compared modulo the smaller repeat.
+fn offset_and_repeats() {
+    let mut p = [0u32; 519];
+    let n = t1(&mut p);
+    show::check(
+        b"T1 with message 32 in row 1 of message 16's column",
+        &p[0..n],
+        b"0 0 0 1 1 0",
+        13,
+        1,
+    );
+    build::set(&mut p, 32, 700);
+    show::check(
+        b"T1 with offset 700 for message 48",
+        &p[0..n],
+        b"0 0 1 1 1 0",
+        0,
+        0,
+    );
+}
+
+// Nothing is due in the first matrix cycle, and still no instance is served.
+fn beyond_the_first_cycle() {
+    let mut p = [0u32; 519];
+    let n = build::problem(
+        b"1 400 65 1 32 1 1",
+        b"200 100",
+        b"16 0 1 2 400 350 100",
+        &mut p,
+    );
+    show::check(
+        b"released at 350, due at 450, sent at 200",
+        &p[0..n],
+        b"0 0",
+        12,
+        0,
+    );
+    show::plan(
+        b"released at 350, due at 450, one column at 200",
+        &p[0..n],
+        14,
+        b"",
+    );
+}
+
+// Every case of the document.
+pub fn run() {
+    paper::text(b"Document 01, the plans worked by hand\n");
+    lengths();
+    first();
+    deadlines();
+    no_messages();
+    events();
+    paper::text(b"Document 01, the slips\n");
+    first_fit();
+    offset_and_repeats();
+    beyond_the_first_cycle();
+}

@@ -1,0 +1,19 @@
+// The cases that the documents work by hand, each run and compared.
+mod build;
+mod document_000;
+mod document_001;
+mod document_003;
+mod document_004;
+mod document_01;
+mod limits;
+mod show;
+
+// Document by document.
+fn main() {
+    document_01::run();
+    document_000::run();
+    document_001::run();
+    document_003::run();
+    document_004::run();
+    limits::run();
+}

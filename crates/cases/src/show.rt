@@ -1,0 +1,204 @@
+// A case is shown on a line: what is tried, what came out, and whether that is what the document says.
+use crate::build;
+use checker::Checked;
+use losses::BusTime;
+use losses::Lost;
+use planner::Planned;
+use response::Responded;
+use rules::Refusal;
+use triggers::Listed;
+use writer::Written;
+ghost use Prim.Native.Nat.{_≤_};
+ghost use lib.ListN.{length};
+
+// Whether two lists of words are the same.
+fn is_same(a: &[u32], b: &[u32]) -> bool {
+    if a.len() != b.len() {
+        return false;
+    }
+    let mut i: usize = 0;
+    while i < a.len() && a[i] == b[i] {
+        i += 1;
+    }
+    i == a.len()
+}
+
+// The front of a buffer, or all of it where there is less.
+fn front(words: &[u32], n: usize) -> &[u32] {
+    if words.len() < n {
+        return words;
+    }
+    &words[0..n]
+}
+
+// The file of a problem in the front of a buffer, none where it is not well-formed; answers its length.
+fn file_of(problem: &[u32], file: &mut [u8]) -> usize
+    ensures { λ r. ⌜ r ≤ length (now (file .exit)) ⌝ }
+{
+    let written = writer::write(problem, file);
+    let Written::File(n) = written else {
+        return 0;
+    };
+    if file.len() < n {
+        return 0;
+    }
+    n
+}
+
+// Starts a case's line.
+fn start(title: &[u8], call: &[u8]) {
+    paper::text(b"  ");
+    paper::text(title);
+    paper::text(call);
+}
+
+// Ends a case's line.
+fn end(is_right: bool) {
+    if is_right {
+        paper::text(b": ok\n");
+    } else {
+        paper::text(b": DIFFERS\n");
+    }
+}
+
+// Shows a refusal where the document wants the refusal of a number and a place, or none.
+fn end_refused(q: Refusal, number: u32, place: u32) {
+    paper::text(b"refused ");
+    paper::number(rules::number_of(q));
+    paper::text(b", place ");
+    paper::number(rules::place_of(q));
+    end((rules::number_of(q) == number) & (rules::place_of(q) == place));
+}
+
+// Whether words start with those of a text.
+fn starts_with(words: &[u32], text: &[u8]) -> bool {
+    let mut w = [0u32; 256];
+    let n = build::words(text, &mut w);
+    is_same(front(words, n), &w[0..n])
+}
+
+// Whether words are those of a text.
+fn is_text(words: &[u32], text: &[u8]) -> bool {
+    let mut w = [0u32; 256];
+    let n = build::words(text, &mut w);
+    is_same(words, &w[0..n])
+}
+
+// Shows words that came out where the document wants these words, or the refusal of a number.
+fn end_words(words: &[u32], number: u32, wanted: &[u8]) {
+    if words.len() == 0 {
+        paper::text(b"no words");
+    }
+    paper::words(words);
+    end((number == 0) & is_text(words, wanted));
+}
+
+// A proposal checked: the number and the place that the document wants, 0 and 0 where it is accepted.
+pub fn check(title: &[u8], problem: &[u32], proposal: &[u8], number: u32, place: u32) {
+    let mut file = [0u8; 1296];
+    let n = file_of(problem, &mut file);
+    let mut w = [0u32; 128];
+    let m = build::words(proposal, &mut w);
+    start(title, b", checked: ");
+    let got = checker::check(&file[0..n], &w[0..m]);
+    match got {
+        Checked::Accepted => {
+            paper::text(b"accepted");
+            end(number == 0);
+        }
+        Checked::Refused(q) => end_refused(q, number, place),
+    }
+}
+
+// A problem planned: the proposal that the document wants, or the number of the refusal.
+pub fn plan(title: &[u8], problem: &[u32], number: u32, wanted: &[u8]) {
+    let mut file = [0u8; 1296];
+    let n = file_of(problem, &mut file);
+    let mut proposal = [0u32; 32];
+    start(title, b", planned: ");
+    let got = planner::plan(&file[0..n], &mut proposal);
+    match got {
+        Planned::Proposal(m) => end_words(front(&proposal, m), number, wanted),
+        Planned::Refused(q) => end_refused(q, number, 0),
+    }
+}
+
+// The figures as words.
+fn figures(t: BusTime) -> [u32; 5] {
+    [t.reference, t.used, t.in_window, t.empty, t.gaps]
+}
+
+// The losses of an acceptable proposal.
+pub fn losses(title: &[u8], problem: &[u32], proposal: &[u8], wanted: &[u8]) {
+    let mut file = [0u8; 1296];
+    let n = file_of(problem, &mut file);
+    let mut w = [0u32; 128];
+    let m = build::words(proposal, &mut w);
+    start(title, b", losses: ");
+    let got = losses::losses(&file[0..n], &w[0..m]);
+    match got {
+        Lost::Figures(t) => end_words(&figures(t), 0, wanted),
+        Lost::Refused(q) => end_refused(q, 0, 0),
+    }
+}
+
+// Shows trigger lists by how many words they are and their 16 counts, where the document wants so many words that start with those of a text.
+fn end_lists(words: &[u32], count: usize, wanted: &[u8]) {
+    paper::count(words.len());
+    paper::text(b" words, counts ");
+    paper::words(front(words, 16));
+    end((words.len() == count) & starts_with(words, wanted));
+}
+
+// The trigger lists of an acceptable proposal.
+pub fn lists(title: &[u8], problem: &[u32], proposal: &[u8], count: usize, wanted: &[u8]) {
+    let mut file = [0u8; 1296];
+    let n = file_of(problem, &mut file);
+    let mut w = [0u32; 128];
+    let m = build::words(proposal, &mut w);
+    let mut words = [0u32; 2064];
+    start(title, b", trigger lists: ");
+    let got = triggers::lists(&file[0..n], &w[0..m], &mut words);
+    match got {
+        Listed::Lists(k) => end_lists(front(&words, k), count, wanted),
+        Listed::Refused(q) => end_refused(q, 0, 0),
+    }
+}
+
+// Response times: the times that the document wants, and how many are missed.
+pub fn responses(title: &[u8], events: &[u8], wanted: &[u8], misses: u32) {
+    let mut e = [0u32; 320];
+    let n = build::words(events, &mut e);
+    let mut times = [0u32; 64];
+    start(title, b", response times: ");
+    let got = response::responses(&e[0..n], &mut times);
+    match got {
+        Responded::Done(missed) => {
+            let came = front(&times, n / 5);
+            paper::words(came);
+            paper::text(b", missed ");
+            paper::number(missed);
+            end(is_text(came, wanted) & (missed == misses));
+        }
+        Responded::Refused(q) => end_refused(q, 0, 0),
+    }
+}
+
+// A problem written as a file and read back: the same words come.
+pub fn round_trip(title: &[u8], problem: &[u32]) {
+    let mut file = [0u8; 1296];
+    let n = file_of(problem, &mut file);
+    let mut words = [0u32; 519];
+    start(title, b", written and read back: ");
+    let got = reader::read(&file[0..n], &mut words);
+    match got {
+        reader::Read::Problem(m) => {
+            paper::count(n);
+            paper::text(b" bytes, ");
+            paper::count(m);
+            paper::text(b" words");
+            end(is_same(front(&words, m), problem));
+        }
+        reader::Read::Refused(q) => end_refused(q, 0, 0),
+    }
+}
