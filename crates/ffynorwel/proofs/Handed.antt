@@ -1,0 +1,58 @@
+-- What shows that an answer is handed over, and that two results which the promise of an exported call allows are equal.
+use Prim.Native.Nat.{ℕ}
+use mathlib.Core.Path.{_≡_, sym, ap, _∙_}
+use mathlib.Core.List.{List}
+use Rattle.reader.specs.Promise.{Reading}
+use Rattle.reader.proofs.Results.{read-one}
+use Rattle.writer.specs.Promise.{Writing}
+use Rattle.writer.proofs.Results.{write-one}
+use Rattle.checker.specs.Promise.{Checking}
+use Rattle.checker.proofs.Promise.{checking-one}
+use Rattle.losses.specs.Promise.{Losing}
+use Rattle.losses.proofs.Promise.{losing-one}
+use Rattle.triggers.specs.Promise.{Promise as Listing}
+use Rattle.triggers.proofs.Promised.{promise-one}
+use Rattle.planner.specs.Promise.{Planning}
+use Rattle.planner.proofs.Unique.{planning-one}
+use Rattle.response.specs.Answers.{Outcome}
+use Rattle.response.proofs.Outcomes.{outcome-one}
+use Rattle.ffynorwel.specs.Eight.{readWords, writtenWords, checkedWords, lostWords, listedWords, plannedWords, respondedWords}
+use Rattle.ffynorwel.specs.Handed.{Handed}
+
+-- the call answered r, which is s, and the words of s were stored
+pub handed : {A : Type 0} {P : A → Type 0} {words : A → List ℕ} {x : List ℕ} {r s : A} → P r → r ≡ s → x ≡ words s → Handed P words x
+handed {words = words} {r = r} p is stored = record { answer = r; promised = p; stored = stored ∙ ap words (sym is) }
+
+-- two promises that settle the answer settle its eight words
+module _ {A : Type 0} {P Q : A → Type 0} {words : A → List ℕ} {x y : List ℕ} where
+  handed-one : ((r s : A) → P r → Q s → r ≡ s) → Handed P words x → Handed Q words y → x ≡ y
+  handed-one one a b = a .stored ∙ ap words (one _ _ (a .promised) (b .promised)) ∙ sym (b .stored)
+
+-- and where they settle a buffer too
+module _ {A B : Type 0} {P Q : A → Type 0} {words : A → List ℕ} {x y : List ℕ} where
+  handed-both : ((r s : A) → P r → Q s → (r ≡ s) × B) → Handed P words x → Handed Q words y → (x ≡ y) × B
+  handed-both both a b = (handed-one (λ r s p q. both r s p q .0) a b, both _ _ (a .promised) (b .promised) .1)
+
+module _ {f d e g x y : List ℕ} where
+  pub ffy-read-one : Handed (Reading f d e) readWords x → Handed (Reading f d g) readWords y → (x ≡ y) × (e ≡ g)
+  ffy-read-one = handed-both (λ r s a b. read-one f d e g r s a b)
+
+  pub ffy-write-one : Handed (Writing f d e) writtenWords x → Handed (Writing f d g) writtenWords y → (x ≡ y) × (e ≡ g)
+  ffy-write-one = handed-both (λ r s a b. write-one f d e g r s a b)
+
+  pub ffy-plan-one : Handed (Planning f d e) plannedWords x → Handed (Planning f d g) plannedWords y → (x ≡ y) × (e ≡ g)
+  ffy-plan-one = handed-both (λ r s a b. planning-one a b)
+
+  pub ffy-responses-one : Handed (Outcome f d e) respondedWords x → Handed (Outcome f d g) respondedWords y → (x ≡ y) × (e ≡ g)
+  ffy-responses-one = handed-both (λ r s a b. let o = outcome-one a b in (o .1, o .0))
+
+module _ {f w x y : List ℕ} where
+  pub ffy-check-one : Handed (Checking f w) checkedWords x → Handed (Checking f w) checkedWords y → x ≡ y
+  ffy-check-one = handed-one (λ r s a b. checking-one a b)
+
+  pub ffy-losses-one : Handed (Losing f w) lostWords x → Handed (Losing f w) lostWords y → x ≡ y
+  ffy-losses-one = handed-one (λ r s a b. losing-one a b)
+
+module _ (f w d : List ℕ) {e g x y : List ℕ} where
+  pub ffy-lists-one : Handed (Listing f w d e) listedWords x → Handed (Listing f w d g) listedWords y → (x ≡ y) × (e ≡ g)
+  ffy-lists-one = handed-both (λ r s a b. promise-one f w d a b)

@@ -1,0 +1,145 @@
+// The calls for programs in other languages: each hands over the answer of its Rattle call as eight words. A slice is a pointer and a length.
+use checker::Checked;
+use losses::Lost;
+use planner::Planned;
+use reader::Read;
+use response::Responded;
+use rules::Refusal;
+use triggers::Listed;
+use writer::Written;
+ghost use mathlib.Core.Path.{_≡_};
+ghost use Prim.Native.Nat.{_<_};
+ghost use Rattle.rules.specs.Refusal.{number as numberOf, place as placeOf};
+ghost use Rattle.reader.specs.Promise.{Reading};
+ghost use Rattle.writer.specs.Promise.{Writing};
+ghost use Rattle.checker.specs.Promise.{Checking};
+ghost use Rattle.losses.specs.Promise.{Losing};
+ghost use Rattle.triggers.specs.Promise.{Promise as Listing};
+ghost use Rattle.planner.specs.Promise.{Planning};
+ghost use Rattle.response.specs.Answers.{Outcome};
+ghost use Rattle.ffynorwel.specs.Eight.{eight, readWords, writtenWords, checkedWords, lostWords, listedWords, plannedWords, respondedWords};
+ghost use Rattle.ffynorwel.specs.Handed.{Handed};
+
+// Stores number, place and figures; no answer has a second place yet.
+fn store(answer: &mut [u32; 8], number: u32, place: u32, a: u32, b: u32, c: u32, d: u32, e: u32)
+    ensures { λ _. ⌜ now (answer .exit) ≡ eight number place a b c d e ⌝ }
+{
+    *answer = [number, place, 0, a, b, c, d, e];
+}
+
+// Stores a refusal.
+fn refuse(answer: &mut [u32; 8], q: Refusal)
+    ensures { λ _. ⌜ now (answer .exit) ≡ eight (numberOf q) (placeOf q) 0 0 0 0 0 ⌝ }
+{
+    store(
+        answer,
+        rules::number_of(q),
+        rules::place_of(q),
+        0,
+        0,
+        0,
+        0,
+        0,
+    );
+}
+
+// Stores that the call is done and wrote so much.
+fn wrote(answer: &mut [u32; 8], count: usize)
+    requires { ⌜ count < 4294967296 ⌝ }
+    ensures { λ _. ⌜ now (answer .exit) ≡ eight 0 0 count 0 0 0 0 ⌝ }
+{
+    store(answer, 0, 0, count as u32, 0, 0, 0, 0);
+}
+
+// reader::read; the figure is how many words were written.
+#[no_mangle]
+pub extern "C" fn ffy_read(file: &[u8], words: &mut [u32], answer: &mut [u32; 8])
+    ensures { λ _. ⌜ Handed (Reading (now (file .entry)) (now (words .entry)) (now (words .exit))) readWords (now (answer .exit)) ⌝ }
+{
+    let got = reader::read(file, words);
+    match got {
+        Read::Problem(n) => wrote(answer, n),
+        Read::Refused(q) => refuse(answer, q),
+    }
+}
+
+// writer::write; the figure is how many bytes were written.
+#[no_mangle]
+pub extern "C" fn ffy_write(words: &[u32], file: &mut [u8], answer: &mut [u32; 8])
+    ensures { λ _. ⌜ Handed (Writing (now (words .entry)) (now (file .entry)) (now (file .exit))) writtenWords (now (answer .exit)) ⌝ }
+{
+    let got = writer::write(words, file);
+    match got {
+        Written::File(n) => wrote(answer, n),
+        Written::Refused(q) => refuse(answer, q),
+    }
+}
+
+// checker::check; it has no figure.
+#[no_mangle]
+pub extern "C" fn ffy_check(file: &[u8], proposal: &[u32], answer: &mut [u32; 8])
+    ensures { λ _. ⌜ Handed (Checking (now (file .entry)) (now (proposal .entry))) checkedWords (now (answer .exit)) ⌝ }
+{
+    let got = checker::check(file, proposal);
+    match got {
+        Checked::Accepted => wrote(answer, 0),
+        Checked::Refused(q) => refuse(answer, q),
+    }
+}
+
+// losses::losses; the figures are the five of the bus time.
+#[no_mangle]
+pub extern "C" fn ffy_losses(file: &[u8], proposal: &[u32], answer: &mut [u32; 8])
+    ensures { λ _. ⌜ Handed (Losing (now (file .entry)) (now (proposal .entry))) lostWords (now (answer .exit)) ⌝ }
+{
+    let got = losses::losses(file, proposal);
+    match got {
+        Lost::Figures(t) => store(
+            answer,
+            0,
+            0,
+            t.reference,
+            t.used,
+            t.in_window,
+            t.empty,
+            t.gaps,
+        ),
+        Lost::Refused(q) => refuse(answer, q),
+    }
+}
+
+// triggers::lists; the figure is how many words were written.
+#[no_mangle]
+pub extern "C" fn ffy_lists(file: &[u8], proposal: &[u32], words: &mut [u32], answer: &mut [u32; 8])
+    ensures { λ _. ⌜ Handed (Listing (now (file .entry)) (now (proposal .entry)) (now (words .entry)) (now (words .exit))) listedWords (now (answer .exit)) ⌝ }
+{
+    let got = triggers::lists(file, proposal, words);
+    match got {
+        Listed::Lists(n) => wrote(answer, n),
+        Listed::Refused(q) => refuse(answer, q),
+    }
+}
+
+// planner::plan; the figure is how many words of the proposal were written.
+#[no_mangle]
+pub extern "C" fn ffy_plan(file: &[u8], proposal: &mut [u32], answer: &mut [u32; 8])
+    ensures { λ _. ⌜ Handed (Planning (now (file .entry)) (now (proposal .entry)) (now (proposal .exit))) plannedWords (now (answer .exit)) ⌝ }
+{
+    let got = planner::plan(file, proposal);
+    match got {
+        Planned::Proposal(n) => wrote(answer, n),
+        Planned::Refused(q) => refuse(answer, q),
+    }
+}
+
+// response::responses; the figure is how many events miss their deadlines.
+#[no_mangle]
+pub extern "C" fn ffy_responses(events: &[u32], times: &mut [u32], answer: &mut [u32; 8])
+    ensures { λ _. ⌜ Handed (Outcome (now (events .entry)) (now (times .entry)) (now (times .exit))) respondedWords (now (answer .exit)) ⌝ }
+{
+    let got = response::responses(events, times);
+    match got {
+        Responded::Done(misses) => store(answer, 0, 0, misses, 0, 0, 0, 0),
+        Responded::Refused(q) => refuse(answer, q),
+    }
+}
