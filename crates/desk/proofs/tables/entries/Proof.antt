@@ -1,0 +1,32 @@
+-- A turn an entry of four words.
+use Prim.Native.Nat.{_≤_, _-_, _/_}
+use lib.ListN.{length}
+use borrow.Author.Needs.{needs}
+use Rattle.desk.proofs.tables.entries.Statement.{statement}
+use Rattle.desk.proofs.tables.entries.Tie as tie
+
+abbrev Inv-loop : tie.InvT-loop
+Inv-loop list i₀ i = i ≤ length list / 4
+
+abbrev μ-loop : tie.MeasureT-loop
+μ-loop list i₀ i = length list / 4 - i
+
+pub entries-spec : {M : Type 1} → statement M
+entries-spec =
+    tie.close
+    (tie.spec
+    Inv-loop
+    μ-loop
+    (λ c. search needs)
+    (λ c. search needs)
+    (λ c. search needs)
+    (λ c. search needs)
+    (λ c. search needs)
+    (λ c. search needs)
+    (λ c. search needs)
+    (λ c. search needs)
+    (λ c κs. search needs)
+    (λ c. search needs)
+    (λ c. search needs)
+    (λ c. search needs)
+    (λ c. search needs))

@@ -1,0 +1,402 @@
+// The commands: what each is given and what it answers. The first word on standard output is done, accepted or refused.
+use super::example;
+use super::input;
+use super::matrix;
+use super::reasons;
+use super::tables;
+use checker::answer::Checked;
+use losses::answer::Lost;
+use planner::answer::Planned;
+use reader::answer::Read;
+use response::Responded;
+use triggers::Listed;
+ghost use Rattle.rules.specs.Problem.{WellFormed};
+
+// The node that stands for all of them.
+const ALL_NODES: usize = 16;
+
+// What the first argument asks for.
+enum Command {
+    Show,
+    Check,
+    Plan,
+    Losses,
+    Lists,
+    Times,
+    Words,
+    File,
+    Help,
+    Unknown,
+}
+
+// What of a problem is shown.
+enum View {
+    Problem,
+    Words,
+    Proposal,
+    Matrix,
+    Example,
+}
+
+// ---- answers
+
+// Shows a well-formed problem, or what a proposal makes of it.
+fn present(view: View, p: &[u32], w: &[u32])
+    requires { ⌜ WellFormed (now p) ⌝ }
+{
+    paper::line(b"done");
+    match view {
+        View::Problem => {
+            tables::header(p);
+            tables::messages(p);
+            matrix::show(p, w, false);
+        }
+        View::Words => tables::problem_words(p),
+        View::Proposal => tables::proposal_words(p, w),
+        View::Matrix => {
+            tables::header(p);
+            tables::messages(p);
+            matrix::show(p, w, true);
+        }
+        View::Example => {
+            paper::line(b"Document 003's example, planned; identifiers in hexadecimal");
+            matrix::show(p, w, true);
+        }
+    }
+}
+
+// Reads a problem file and shows it, or says why it is refused.
+fn show(view: View, file: &[u8], w: &[u32]) {
+    let mut words = [0u32; 519];
+    let got = reader::decode(file, &mut words);
+    let Read::Problem(n) = got else {
+        reasons::refuse(reader::answer::refusal_of(got));
+        return;
+    };
+    present(view, &words[..n], w);
+}
+
+// Shows a problem with a proposal's matrix and losses.
+fn show_proposal(view: View, file: &[u8], w: &[u32]) {
+    let got = losses::losses(file, w);
+    match got {
+        Lost::Refused(q) => reasons::refuse(q),
+        Lost::Figures(t) => {
+            show(view, file, w);
+            paper::line(b"\nlosses over one matrix cycle");
+            tables::bus_time(t);
+        }
+    }
+}
+
+// Says whether a proposal is accepted.
+fn check(file: &[u8], w: &[u32]) {
+    let got = checker::check(file, w);
+    match got {
+        Checked::Accepted => paper::line(b"accepted"),
+        Checked::Refused(q) => reasons::refuse(q),
+    }
+}
+
+// Shows the losses of a proposal.
+fn show_losses(file: &[u8], w: &[u32]) {
+    let got = losses::losses(file, w);
+    match got {
+        Lost::Refused(q) => reasons::refuse(q),
+        Lost::Figures(t) => {
+            paper::line(b"done");
+            tables::bus_time(t);
+        }
+    }
+}
+
+// Fills a buffer with the trigger lists, or says why there are none.
+fn fill_lists(file: &[u8], w: &[u32], lists: &mut [u32; 2064]) -> bool {
+    let got = triggers::lists(file, w, lists);
+    match got {
+        Listed::Refused(q) => {
+            reasons::refuse(q);
+            false
+        }
+        Listed::Lists(_) => true,
+    }
+}
+
+// The list of one node, or of all if there is no such node.
+fn show_lists(file: &[u8], w: &[u32], node: usize) {
+    let mut lists = [0u32; 2064];
+    let is_done = fill_lists(file, w, &mut lists);
+    if is_done {
+        paper::line(b"done");
+        tables::lists(&lists, node);
+    }
+}
+
+// Shows the least acceptable proposal as a word list, which can be checked as it stands.
+fn plan(file: &[u8]) {
+    let mut proposal = [0u32; 32];
+    let got = planner::plan(file, &mut proposal);
+    match got {
+        Planned::Refused(q) => reasons::refuse(q),
+        Planned::Proposal(n) => {
+            let n = input::within(n, &proposal);
+            show(View::Proposal, file, &proposal[..n]);
+        }
+    }
+}
+
+// Shows the response times of events.
+fn show_times(events: &[u32]) {
+    let mut times = [0u32; 64];
+    let got = response::responses(events, &mut times);
+    match got {
+        Responded::Refused(q) => reasons::refuse(q),
+        Responded::Done(misses) => {
+            paper::line(b"done");
+            tables::events(events, &times);
+            paper::text(b"deadlines missed: ");
+            paper::number(misses);
+            paper::end_line();
+        }
+    }
+}
+
+// ---- commands
+
+// A command on a problem.
+fn on_problem(command: Command) {
+    let mut bytes = io::large_buffer();
+    let got = input::problem(2, &mut bytes);
+    if !got.is_good {
+        return;
+    }
+    let n = got.count;
+    match command {
+        Command::Plan => plan(&bytes[..n]),
+        Command::Words => show(View::Words, &bytes[..n], &[]),
+        _ => show(View::Problem, &bytes[..n], &[]),
+    }
+}
+
+// A command on a problem and a proposal; the node is for the lists.
+fn on_proposal(command: Command, node: usize) {
+    let mut bytes = io::large_buffer();
+    let got = input::problem(2, &mut bytes);
+    if !got.is_good {
+        return;
+    }
+    let mut words = [0u32; 1024];
+    let told = input::words(3, &mut words);
+    if !told.is_good {
+        return;
+    }
+    let n = got.count;
+    let k = told.count;
+    match command {
+        Command::Check => check(&bytes[..n], &words[..k]),
+        Command::Losses => show_losses(&bytes[..n], &words[..k]),
+        Command::Lists => show_lists(&bytes[..n], &words[..k], node),
+        _ => show_proposal(View::Matrix, &bytes[..n], &words[..k]),
+    }
+}
+
+// The trigger lists of all nodes, or of the node that an argument names.
+fn on_lists(arguments: usize) {
+    if arguments == 4 {
+        on_proposal(Command::Lists, ALL_NODES);
+        return;
+    }
+    let node = input::number(4);
+    if 15 < node {
+        paper::say(b"ttplan: NODE is a number from 0 to 15\n");
+        return;
+    }
+    on_proposal(Command::Lists, node as usize);
+}
+
+// The response times of events.
+fn on_events() {
+    let mut words = [0u32; 1024];
+    let got = input::words(2, &mut words);
+    if !got.is_good {
+        return;
+    }
+    let n = got.count;
+    show_times(&words[..n]);
+}
+
+// The file of a problem's words: a line that says done, and behind it the bytes.
+fn on_words() {
+    let mut words = [0u32; 1024];
+    let got = input::words(2, &mut words);
+    if !got.is_good {
+        return;
+    }
+    let n = got.count;
+    let mut bytes = [0u8; 1296];
+    let told = input::written(&words[..n], &mut bytes);
+    if !told.is_good {
+        return;
+    }
+    let k = told.count;
+    paper::line(b"done");
+    paper::text(&bytes[..k]);
+}
+
+// Plans document 003's example, and shows the matrix, its losses and the list of node 0.
+fn on_example() {
+    let mut words = [0u32; 151];
+    let got = example::words(&mut words);
+    let n = got.count;
+    let mut bytes = [0u8; 1296];
+    let told = input::written(&words[..n], &mut bytes);
+    if !told.is_good {
+        return;
+    }
+    let k = told.count;
+    show_example(&bytes[..k]);
+}
+
+// Plans a problem and shows all of it: the matrix, the losses and the list of node 0.
+fn show_example(file: &[u8]) {
+    let mut proposal = [0u32; 32];
+    let got = planner::plan(file, &mut proposal);
+    match got {
+        Planned::Refused(q) => reasons::refuse(q),
+        Planned::Proposal(n) => {
+            let n = input::within(n, &proposal);
+            show_proposal(View::Example, file, &proposal[..n]);
+            show_first_list(file, &proposal[..n]);
+        }
+    }
+}
+
+// Shows the list of node 0 behind what has been shown.
+fn show_first_list(file: &[u8], w: &[u32]) {
+    let mut lists = [0u32; 2064];
+    let is_done = fill_lists(file, w, &mut lists);
+    if is_done {
+        paper::end_line();
+        tables::lists(&lists, 0);
+    }
+}
+
+// ---- the program
+
+// The command that the first argument names.
+fn command_named(name: &[u8]) -> Command {
+    if input::is_same(name, b"show") {
+        return Command::Show;
+    }
+    if input::is_same(name, b"check") {
+        return Command::Check;
+    }
+    if input::is_same(name, b"plan") {
+        return Command::Plan;
+    }
+    if input::is_same(name, b"losses") {
+        return Command::Losses;
+    }
+    if input::is_same(name, b"lists") {
+        return Command::Lists;
+    }
+    if input::is_same(name, b"times") {
+        return Command::Times;
+    }
+    if input::is_same(name, b"words") {
+        return Command::Words;
+    }
+    if input::is_same(name, b"file") {
+        return Command::File;
+    }
+    if input::is_same(name, b"help") {
+        return Command::Help;
+    }
+    Command::Unknown
+}
+
+// Whether a command takes so many arguments, the program's name and its own among them.
+fn takes(command: Command, arguments: usize) -> bool {
+    match command {
+        Command::Show => (arguments == 3) | (arguments == 4),
+        Command::Check => arguments == 4,
+        Command::Losses => arguments == 4,
+        Command::Lists => (arguments == 4) | (arguments == 5),
+        Command::Help => arguments == 2,
+        Command::Unknown => false,
+        _ => arguments == 3,
+    }
+}
+
+// How a command is used, on standard error.
+fn say_usage(command: Command) {
+    match command {
+        Command::Show => paper::say(b"ttplan: use: ttplan show FILE [PROPOSAL]\n"),
+        Command::Check => paper::say(b"ttplan: use: ttplan check FILE PROPOSAL\n"),
+        Command::Plan => paper::say(b"ttplan: use: ttplan plan FILE\n"),
+        Command::Losses => paper::say(b"ttplan: use: ttplan losses FILE PROPOSAL\n"),
+        Command::Lists => paper::say(b"ttplan: use: ttplan lists FILE PROPOSAL [NODE]\n"),
+        Command::Times => paper::say(b"ttplan: use: ttplan times EVENTS\n"),
+        Command::Words => paper::say(b"ttplan: use: ttplan words FILE\n"),
+        Command::File => paper::say(b"ttplan: use: ttplan file WORDS\n"),
+        Command::Help => paper::say(b"ttplan: use: ttplan help\n"),
+        Command::Unknown => paper::say(
+            b"ttplan: no such command; they are show, check, plan, losses, lists, times, words, file and help\n",
+        ),
+    }
+}
+
+// What the program does, in a few lines.
+fn help() {
+    paper::line(b"done");
+    paper::line(b"ttplan                             plan document 003's example");
+    paper::line(
+        b"ttplan show FILE [PROPOSAL]        the problem; with a proposal its matrix and losses",
+    );
+    paper::line(b"ttplan check FILE PROPOSAL         accepted, or refused and why");
+    paper::line(b"ttplan plan FILE                   the least acceptable proposal");
+    paper::line(b"ttplan losses FILE PROPOSAL        where the bus time of one matrix cycle goes");
+    paper::line(b"ttplan lists FILE PROPOSAL [NODE]  the trigger lists of all nodes or one");
+    paper::line(b"ttplan times EVENTS                response times on a plain CAN bus");
+    paper::line(b"ttplan words FILE                  a problem as a word list");
+    paper::line(b"ttplan file WORDS                  a word list as a problem file");
+    paper::line(b"FILE is a problem file (.tsm) or a word list; the others are word lists:");
+    paper::line(b"decimal numbers between white space, # begins a comment.");
+}
+
+// Does what the arguments ask for.
+pub fn run() {
+    let arguments = os::arg_count();
+    if arguments < 2 {
+        on_example();
+        return;
+    }
+    let mut name = io::buffer();
+    let n = os::arg(1, &mut name);
+    let command = command_named(&name[..n]);
+    if !takes(command, arguments) {
+        say_usage(command);
+        return;
+    }
+    obey(command, arguments);
+}
+
+// Does what a command asks for, whose arguments have been counted.
+fn obey(command: Command, arguments: usize) {
+    match command {
+        Command::Help => help(),
+        Command::Times => on_events(),
+        Command::File => on_words(),
+        Command::Plan => on_problem(command),
+        Command::Words => on_problem(command),
+        Command::Show => {
+            if arguments == 3 {
+                on_problem(command);
+            } else {
+                on_proposal(command, ALL_NODES);
+            }
+        }
+        Command::Lists => on_lists(arguments),
+        _ => on_proposal(command, ALL_NODES),
+    }
+}

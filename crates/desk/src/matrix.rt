@@ -1,0 +1,162 @@
+// The matrix as a table, as in document 003's figure 2: a line for each basic cycle, a column for each window. Wide ones are cut into blocks.
+use rules::words;
+ghost use Prim.Native.Nat.{_≤_};
+ghost use Rattle.rules.specs.Problem.{WellFormed, columns};
+ghost use Rattle.rules.specs.Parts.{Member};
+
+// What a cell holds: the message of this identifier, or nothing.
+enum Cell {
+    Sent(usize),
+    Empty,
+}
+
+// Whether a proposal has message j sent in column c of row r. One that is cut short has nothing sent beyond its end.
+fn is_sent(p: &[u32], w: &[u32], j: usize, r: usize, c: usize) -> bool
+    requires { ⌜ Member (now p) j ⌝ }
+{
+    if w.len() <= 2 * j + 1 {
+        return false;
+    }
+    (words::column_of(w, j) == c) & (words::row_of(w, j) == r % words::repeat_of(p, j))
+}
+
+// What a proposal has sent in column c of row r.
+fn sent_in(p: &[u32], w: &[u32], r: usize, c: usize) -> Cell
+    requires { ⌜ WellFormed (now p) ⌝ }
+{
+    let messages = words::messages_of(p);
+    let mut j: usize = 0;
+    while j < messages {
+        if is_sent(p, w, j, r, c) {
+            return Cell::Sent(words::identifier_of(p, j));
+        }
+        j += 1;
+    }
+    Cell::Empty
+}
+
+// One cell: an identifier, or a dot.
+fn show_cell(p: &[u32], w: &[u32], r: usize, c: usize)
+    requires { ⌜ WellFormed (now p) ⌝ }
+{
+    let cell = sent_in(p, w, r, c);
+    match cell {
+        Cell::Sent(identifier) => paper::right_hex(identifier, 6),
+        Cell::Empty => paper::right_text(b".", 6),
+    }
+}
+
+// The cells of one row, from a column to before another.
+fn show_cells(p: &[u32], w: &[u32], r: usize, from: usize, to: usize)
+    requires { ⌜ WellFormed (now p) ⌝ }
+{
+    let mut c = from;
+    while c < to {
+        show_cell(p, w, r, c);
+        c += 1;
+    }
+}
+
+// The lines of all basic cycles, the reference first.
+fn show_rows(p: &[u32], w: &[u32], from: usize, to: usize)
+    requires { ⌜ WellFormed (now p) ⌝ }
+{
+    let rows = words::rows_of(p);
+    let mut r: usize = 0;
+    while r < rows {
+        paper::text(b"cycle ");
+        paper::right_count(r, 3);
+        paper::right_hex(words::word(p, 3), 6);
+        show_cells(p, w, r, from, to);
+        paper::end_line();
+        r += 1;
+    }
+}
+
+// The line of the windows' numbers.
+fn show_numbers(from: usize, to: usize) {
+    paper::text(b"window      ref");
+    let mut c = from;
+    while c < to {
+        paper::right_count(c, 6);
+        c += 1;
+    }
+    paper::end_line();
+}
+
+// The line of the windows' starts; the reference starts at 0.
+fn show_starts(p: &[u32], from: usize, to: usize)
+    requires { ⌜ WellFormed (now p) × (to ≤ columns (now p)) ⌝ }
+{
+    paper::text(b"start         0");
+    let mut c = from;
+    while c < to {
+        paper::right_count(words::start_of(p, c), 6);
+        c += 1;
+    }
+    paper::end_line();
+}
+
+// The line of the windows' widths, the reference window's first.
+fn show_widths(p: &[u32], from: usize, to: usize)
+    requires { ⌜ WellFormed (now p) × (to ≤ columns (now p)) ⌝ }
+{
+    paper::text(b"width    ");
+    paper::right_count(words::ref_len_of(p), 6);
+    let mut c = from;
+    while c < to {
+        paper::right_count(words::width_of(p, c), 6);
+        c += 1;
+    }
+    paper::end_line();
+}
+
+// The windows from a column to before another, and under them what a proposal has sent there, if there is one.
+fn show_block(p: &[u32], w: &[u32], has_plan: bool, from: usize, to: usize)
+    requires { ⌜ WellFormed (now p) × (to ≤ columns (now p)) ⌝ }
+{
+    paper::end_line();
+    show_numbers(from, to);
+    show_starts(p, from, to);
+    show_widths(p, from, to);
+    if has_plan {
+        show_rows(p, w, from, to);
+    }
+}
+
+// How many windows stand side by side: blocks of like size, with at most 10 windows so that a line fits a terminal.
+fn block_size(columns: usize) -> usize
+    requires { ⌜ (1 ≤ columns) × (columns ≤ 32) ⌝ }
+    ensures { λ r. ⌜ (1 ≤ r) × (r ≤ 10) ⌝ }
+{
+    if columns <= 10 {
+        return columns;
+    }
+    if columns <= 20 {
+        return (columns + 1) / 2;
+    }
+    if columns <= 30 {
+        return (columns + 2) / 3;
+    }
+    8
+}
+
+// The smaller of two numbers.
+fn smaller(a: usize, b: usize) -> usize
+    ensures { λ r. ⌜ (r ≤ a) × (r ≤ b) ⌝ }
+{
+    if a < b { a } else { b }
+}
+
+// The windows and, if there is a proposal, the matrix that it gives.
+pub fn show(p: &[u32], w: &[u32], has_plan: bool)
+    requires { ⌜ WellFormed (now p) ⌝ }
+{
+    let columns = words::columns_of(p);
+    let size = block_size(columns);
+    let mut from: usize = 0;
+    while from < columns {
+        show_block(p, w, has_plan, from, smaller(from + size, columns));
+        from += size;
+    }
+}

@@ -1,0 +1,272 @@
+// The other tables: the problem, the losses, the trigger lists and the response times; and words as a text that can be read back.
+use basics::wide;
+use losses::answer::BusTime;
+use rules::words;
+ghost use Prim.Native.Nat.{_+_, _*_, _<_, _≤_};
+ghost use lib.ListN.{length};
+ghost use Rattle.rules.specs.Problem.{WellFormed};
+ghost use Rattle.rules.specs.Parts.{Member};
+
+// ---- the problem
+
+// One number of the header, by its name.
+fn item(name: &[u8], n: usize) {
+    paper::left_text(name, 26);
+    paper::right_count(n, 6);
+    paper::end_line();
+}
+
+// The header's numbers, each by its name.
+pub fn header(p: &[u32])
+    requires { ⌜ WellFormed (now p) ⌝ }
+{
+    item(b"basic cycles", words::rows_of(p));
+    item(b"basic cycle length", words::cycle_of(p));
+    item(b"reference window", words::ref_len_of(p));
+    paper::left_text(b"reference identifier", 26);
+    paper::right_hex(words::word(p, 3), 6);
+    paper::end_line();
+    item(b"triggers a node, at most", words::word(p, 4));
+    item(b"windows", words::columns_of(p));
+    item(b"messages", words::messages_of(p));
+}
+
+// The nodes of a receiver mask.
+fn receivers(mask: u32) {
+    let mut n: u32 = 0;
+    while n < 16 {
+        if basics::has_bit(mask, n) {
+            paper::text(b" ");
+            paper::number(n);
+        }
+        n += 1;
+    }
+}
+
+// One message: a line of its numbers, its receivers last.
+fn message(p: &[u32], j: usize)
+    requires { ⌜ Member (now p) j ⌝ }
+{
+    paper::right_count(j, 7);
+    paper::right_hex(words::identifier_of(p, j), 5);
+    paper::right_count(words::sender_of(p, j), 6);
+    paper::right_count(words::field_of(p, j, 2), 6);
+    paper::right_count(words::period_of(p, j), 9);
+    paper::right_count(words::offset_of(p, j), 9);
+    paper::right_count(words::deadline_of(p, j), 9);
+    paper::text(b"  ");
+    receivers(words::receivers_of(p, j) as u32);
+    paper::end_line();
+}
+
+// A line for each message.
+pub fn messages(p: &[u32])
+    requires { ⌜ WellFormed (now p) ⌝ }
+{
+    let count = words::messages_of(p);
+    paper::line(b"\nmessage   id  from bytes   period   offset deadline   to nodes");
+    let mut j: usize = 0;
+    while j < count {
+        message(p, j);
+        j += 1;
+    }
+}
+
+// ---- words that can be read back
+
+// A line for each so many words.
+fn lines(w: &[u32], size: usize)
+    requires { ⌜ (1 ≤ size) × (size ≤ 7) ⌝ }
+{
+    let mut at: usize = 0;
+    while at + size <= w.len() {
+        paper::words(&w[at..at + size]);
+        paper::end_line();
+        at += size;
+    }
+}
+
+// A problem as a word list.
+pub fn problem_words(p: &[u32])
+    requires { ⌜ WellFormed (now p) ⌝ }
+{
+    let middle = 7 + 2 * words::columns_of(p);
+    paper::line(b"# rows, cycle, reference window and identifier, triggers, columns, messages");
+    lines(&p[0..7], 7);
+    paper::line(b"# columns: start, width");
+    lines(&p[7..middle], 2);
+    paper::line(b"# messages: identifier, sender, bytes, receivers, period, offset, deadline");
+    lines(&p[middle..], 7);
+}
+
+// The column and the base row of one message, and its name as a comment.
+fn placement(p: &[u32], w: &[u32], j: usize)
+    requires { ⌜ Member (now p) j ⌝ }
+{
+    if w.len() <= 2 * j + 1 {
+        return;
+    }
+    paper::count(words::column_of(w, j));
+    paper::text(b" ");
+    paper::count(words::row_of(w, j));
+    paper::text(b" # message ");
+    paper::count(j);
+    paper::text(b", identifier ");
+    paper::hex(words::identifier_of(p, j));
+    paper::end_line();
+}
+
+// A proposal as a word list, a message a line.
+pub fn proposal_words(p: &[u32], w: &[u32])
+    requires { ⌜ WellFormed (now p) ⌝ }
+{
+    let messages = words::messages_of(p);
+    paper::line(b"# column and base row of each message");
+    let mut j: usize = 0;
+    while j < messages {
+        placement(p, w, j);
+        j += 1;
+    }
+}
+
+// ---- losses
+
+// One figure, by its name.
+fn loss(name: &[u8], figure: u32) {
+    paper::left_text(name, 12);
+    paper::right(figure, 9);
+    paper::end_line();
+}
+
+// Where the time of one matrix cycle goes.
+pub fn bus_time(t: BusTime) {
+    loss(b"reference", t.reference);
+    loss(b"used", t.used);
+    loss(b"in-window", t.in_window);
+    loss(b"empty", t.empty);
+    loss(b"gaps", t.gaps);
+}
+
+// ---- response times
+
+// An event and its response time, of which 0 says that it misses its deadline.
+fn event(e: &[u32], time: u32)
+    requires { ⌜ 5 ≤ length (now e) ⌝ }
+{
+    paper::right_hex(wide(e[0]), 4);
+    paper::right(e[1], 6);
+    paper::right(e[2], 9);
+    paper::right(e[3], 9);
+    paper::right(e[4], 9);
+    if time == 0 {
+        paper::right_text(b"missed", 10);
+    } else {
+        paper::right(time, 10);
+    }
+    paper::end_line();
+}
+
+// The response time of event i.
+fn time_of(times: &[u32], i: usize) -> u32 {
+    if i < times.len() { times[i] } else { 0 }
+}
+
+// A line for each event, with its response time.
+pub fn events(e: &[u32], times: &[u32]) {
+    paper::line(b"  id bytes   period   jitter deadline  response");
+    let mut i: usize = 0;
+    while i < e.len() / 5 {
+        event(&e[5 * i..5 * i + 5], time_of(times, i));
+        i += 1;
+    }
+}
+
+// ---- trigger lists
+
+// One entry: its time mark, base row and repeat, what the node does then, and with which identifier.
+fn entry(e: &[u32])
+    requires { ⌜ 4 ≤ length (now e) ⌝ }
+{
+    paper::right(e[1], 6);
+    paper::right(e[2], 5);
+    paper::right(e[3], 7);
+    let kind = e[0] / 65536;
+    if kind == 0 {
+        paper::text(b"  reference ");
+    } else if kind == 1 {
+        paper::text(b"  sends     ");
+    } else {
+        paper::text(b"  receives  ");
+    }
+    paper::hex(wide(e[0] % 65536));
+    paper::end_line();
+}
+
+// Where a list ends that begins at a place: behind so many entries of four words, or with the lists.
+fn list_end(lists: &[u32], at: usize, entries: u32) -> usize
+    requires { ⌜ at ≤ length (now lists) ⌝ }
+    ensures { λ r. ⌜ (at ≤ r) × (r ≤ length (now (lists .entry))) ⌝ }
+{
+    let size = 4 * wide(entries);
+    if lists.len() - at < size {
+        return lists.len();
+    }
+    at + size
+}
+
+// Where the list of a node begins: behind the 16 counts and the lists before it.
+fn list_start(lists: &[u32], node: usize) -> usize
+    requires { ⌜ (16 ≤ length (now lists)) × (node < 16) ⌝ }
+    ensures { λ r. ⌜ r ≤ length (now (lists .entry)) ⌝ }
+{
+    let mut at: usize = 16;
+    let mut n: usize = 0;
+    while n < node {
+        at = list_end(lists, at, lists[n]);
+        n += 1;
+    }
+    at
+}
+
+// The entries of one list.
+fn entries(list: &[u32]) {
+    let mut i: usize = 0;
+    while i < list.len() / 4 {
+        entry(&list[4 * i..4 * i + 4]);
+        i += 1;
+    }
+}
+
+// The list of one node.
+fn list(lists: &[u32], n: usize)
+    requires { ⌜ (16 ≤ length (now lists)) × (n < 16) ⌝ }
+{
+    let count = lists[n];
+    let from = list_start(lists, n);
+    let to = list_end(lists, from, count);
+    paper::text(b"node ");
+    paper::count(n);
+    paper::text(b", triggers: ");
+    paper::number(count);
+    paper::line(b"\n  mark  row repeat  what");
+    entries(&lists[from..to]);
+}
+
+// The lists of all nodes.
+fn all_lists(lists: &[u32; 2064]) {
+    let mut n: usize = 0;
+    while n < 16 {
+        list(lists, n);
+        paper::end_line();
+        n += 1;
+    }
+}
+
+// The list of one node, or of all if there is no such node.
+pub fn lists(lists: &[u32; 2064], node: usize) {
+    if node < 16 {
+        list(lists, node);
+    } else {
+        all_lists(lists);
+    }
+}

@@ -1,0 +1,162 @@
+#!/usr/bin/env bash
+# What only a script can try of the desk tool: exit status, bad use, round trips through files. Says what it tried; fails at the end if any failed.
+set -u
+cd "$(dirname "$0")/.." || exit 2
+scratch=$(mktemp -d) || exit 2
+trap 'rm -rf "$scratch"' EXIT
+tried=0 failed=0
+
+# verdict NAME: counts the try of this name, which held if the command before it did.
+verdict() {
+    local held=$?
+    tried=$((tried + 1))
+    if [ "$held" -eq 0 ]; then
+        printf 'ok      %s\n' "$1"
+    else
+        failed=$((failed + 1))
+        printf 'FAILED  %s\n' "$1"
+        printf '        status %s\n' "$status"
+        sed 's/^/        out: /' "$scratch/out"
+        sed 's/^/        err: /' "$scratch/err"
+    fi
+}
+
+# run ARGUMENTS: keeps the exit status and what is written.
+run() {
+    ./ttplan "$@" >"$scratch/out" 2>"$scratch/err"
+    status=$?
+}
+
+# answers STATUS TEXT ARGUMENTS: this status and exactly this line on standard output, nothing on standard error.
+answers() {
+    local wanted=$1 text=$2
+    shift 2
+    run "$@"
+    [ "$status" -eq "$wanted" ] && [ "$(cat "$scratch/out")" = "$text" ] && [ ! -s "$scratch/err" ]
+    verdict "ttplan $*: $text"
+}
+
+# is_bad TEXT ARGUMENTS: status 2, nothing on standard output, one sentence with this text on standard error.
+is_bad() {
+    local text=$1
+    shift
+    run "$@"
+    [ "$status" -eq 2 ] && [ ! -s "$scratch/out" ] && [ "$(wc -l <"$scratch/err")" -eq 1 ] && grep -qF -- "$text" "$scratch/err"
+    verdict "ttplan $*: $text"
+}
+
+# says STATUS TEXT ARGUMENTS: this status, and a line that has this text.
+says() {
+    local wanted=$1 text=$2
+    shift 2
+    run "$@"
+    [ "$status" -eq "$wanted" ] && grep -qF -- "$text" "$scratch/out" && [ ! -s "$scratch/err" ]
+    verdict "ttplan $*: $text"
+}
+
+# edited NUMBER VALUE: the words of T1 with the word at a place (from 0) changed, in a file that is then named.
+edited() {
+    tr -s ' \n' '\n' < <(sed 's/#.*//' examples/t1.words) | grep -v '^$' | awk -v at="$1" -v to="$2" '{ print (NR - 1 == at) ? to : $0 }' >"$scratch/edited.words"
+}
+
+e=examples
+printf '%s\n' '-- answers'
+answers 0 accepted check $e/t1.tsm $e/t1.plan
+answers 0 accepted check $e/t1.words $e/t1.plan
+answers 0 accepted check $e/document-003.words $e/document-003.plan
+answers 0 accepted check $e/press-line.words $e/press-line.plan
+answers 1 'refused 13, message 2 meets an earlier message' check $e/t1.words $e/t1-meeting.plan
+says 0 'cycle   7    F0    51    52    53   102   104   202   404     .'
+says 0 'cycle   1     1    10    20     .' show $e/t1.tsm $e/t1.plan
+says 0 'in-window          40' losses $e/t1.tsm $e/t1.plan
+says 0 '   200    1      2  receives  20' lists $e/t1.tsm $e/t1.plan 0
+says 0 'node 15, triggers: 1' lists $e/t1.tsm $e/t1.plan
+says 0 'deadlines missed: 0' times $e/events.words
+says 0 'ttplan check FILE PROPOSAL' help
+
+printf '%s\n' '-- every refusal that a person can meet'
+head -c 15 $e/t1.tsm >"$scratch/short.tsm"
+answers 1 'refused 1, the length does not fit the numbers of columns and messages' plan "$scratch/short.tsm"
+(printf 'TSN' && tail -c +4 $e/t1.tsm) >"$scratch/mark.tsm"
+answers 1 'refused 2, the file does not begin with the mark TSM' plan "$scratch/mark.tsm"
+(printf 'TSM\0\2' && tail -c +6 $e/t1.tsm) >"$scratch/version.tsm"
+answers 1 'refused 3, the version of the file is not 1' plan "$scratch/version.tsm"
+edited 0 3
+answers 1 'refused 4, a number of the header is out of range' plan "$scratch/edited.words"
+edited 10 0
+answers 1 'refused 5, column 1 has no width, begins too early or ends after the basic cycle' plan "$scratch/edited.words"
+edited 20 16
+answers 1 'refused 6, message 1 has a wrong identifier, sender, data length or receiver' plan "$scratch/edited.words"
+edited 24 500
+answers 1 'refused 7, message 1 has a wrong period, offset or deadline' plan "$scratch/edited.words"
+edited 4 3
+answers 1 'refused 8, node 0 needs more triggers than the limit' plan "$scratch/edited.words"
+echo 0 0 1 1 1 >"$scratch/p"
+answers 1 'refused 9, the proposal does not have two words for each message' check $e/t1.tsm "$scratch/p"
+echo 0 0 1 1 1 2 >"$scratch/p"
+answers 1 'refused 10, message 2 is given a column or a base row that it cannot have' losses $e/t1.tsm "$scratch/p"
+echo 1 0 0 0 0 0 >"$scratch/p"
+answers 1 'refused 11, message 0 is longer than its window' lists $e/t1.tsm "$scratch/p"
+echo 0 0 1 0 1 1 >"$scratch/p"
+answers 1 'refused 12, message 1 is late for its deadline' show $e/t1.tsm "$scratch/p"
+edited 26 264
+answers 1 'refused 14, no acceptable proposal exists' plan "$scratch/edited.words"
+(echo 1 1000 65 1 32 1 17 65 135 && for i in $(seq 17); do echo "$((i + 1)) $((i % 16)) 0 0 1000 0 1000"; done) >"$scratch/many.words"
+answers 1 'refused 15, the planner takes at most 16 messages' plan "$scratch/many.words"
+echo 1 8 337 0 >"$scratch/events"
+answers 1 'refused 17, events have five words each, and there are at most 64' times "$scratch/events"
+echo 1 8 337 0 337 1 8 337 0 337 >"$scratch/events"
+answers 1 'refused 18, event 1 has a wrong identifier, data length, period, jitter or deadline' times "$scratch/events"
+edited 26 265
+says 0 '1 1 # message 1, identifier 20' plan "$scratch/edited.words"
+sed 's/440/404/' $e/events.words >"$scratch/events"
+says 0 'deadlines missed: 1' times "$scratch/events"
+
+printf '%s\n' '-- plans and files can be read back'
+for name in t1 document-003 press-line; do
+    run plan $e/$name.words
+    [ "$status" -eq 0 ] && cmp -s "$scratch/out" $e/$name.plan
+    verdict "ttplan plan $e/$name.words is $e/$name.plan"
+    run file $e/$name.words
+    cp "$scratch/out" "$scratch/$name.tsm"
+    run words "$scratch/$name.tsm"
+    cp "$scratch/out" "$scratch/$name.words"
+    run file "$scratch/$name.words"
+    [ "$status" -eq 0 ] && cmp -s "$scratch/out" "$scratch/$name.tsm"
+    verdict "ttplan file, words, file of $e/$name.words"
+done
+cmp -s "$scratch/t1.tsm" $e/t1.tsm
+verdict "ttplan file $e/t1.words is $e/t1.tsm"
+cmp -s $e/t1.tsm crates/ttplan_show/data/t1.tsm && cmp -s $e/t1.plan crates/ttplan_show/data/t1.plan
+verdict 'the program that the gate runs has the same files'
+./ttplan show $e/document-003.words $e/document-003.plan >"$scratch/shown"
+./ttplan | sed -n '/^window  /,/^gaps/p' >"$scratch/default"
+sed -n '/^window  /,/^gaps/p' "$scratch/shown" | cmp -s - "$scratch/default"
+verdict 'the example built in is examples/document-003.words'
+run show $e/document-003.words $e/document-003.plan
+[ "$(awk '{ if (length($0) > most) most = length($0) } END { print most }' "$scratch/out")" -le 80 ]
+verdict 'tables fit 80 columns'
+
+printf '%s\n' '-- bad use'
+is_bad 'no such command' frobnicate
+is_bad 'use: ttplan check FILE PROPOSAL' check $e/t1.tsm
+is_bad 'use: ttplan show FILE [PROPOSAL]' show
+is_bad 'use: ttplan plan FILE' plan $e/t1.tsm $e/t1.plan
+is_bad 'use: ttplan times EVENTS' times
+is_bad 'nowhere.words: No such file or directory' plan "$scratch/nowhere.words"
+is_bad 'Is a directory' plan "$scratch"
+head -c 65537 /dev/zero >"$scratch/long.tsm"
+is_bad 'longer than 65,536 bytes' plan "$scratch/long.tsm"
+printf '# one\n2 400 six\n' >"$scratch/bad.words"
+is_bad 'bad.words, line 2, column 7: not a whole number' plan "$scratch/bad.words"
+printf '2 4294967296' >"$scratch/bad.words"
+is_bad 'line 1, column 3: not a whole number' plan "$scratch/bad.words"
+printf '2 -1' >"$scratch/bad.words"
+is_bad 'line 1, column 3: not a whole number' check $e/t1.tsm "$scratch/bad.words"
+seq 1025 >"$scratch/bad.words"
+is_bad 'line 1025, column 1: a word list has at most 1,024 words' plan "$scratch/bad.words"
+is_bad 'NODE is a number from 0 to 15' lists $e/t1.tsm $e/t1.plan 16
+is_bad 'NODE is a number from 0 to 15' lists $e/t1.tsm $e/t1.plan one
+
+printf '%s tried, %s failed\n' "$tried" "$failed"
+[ "$failed" -eq 0 ]
