@@ -3,13 +3,13 @@ use Prim.Native.Nat.{ℕ, zero, suc, _+_, _*_, _-_, _<_, _≤_}
 use mathlib.Core.Path.{_≡_, refl, sym, ap, _∙_, subst}
 use mathlib.Core.Logic.{⊎-elim}
 use mathlib.Core.List.{List, [], _∷_, _++_, append-nil, append-assoc}
-use borrow.Rule.Slice.PartMut.{putMid}
+use borrow.Rule.Slice.PartMut.{putMid, midOf, same-len-mid}
 use native.Mathlib.Nat.{add-sub-cancel-left, mul-le-mul-left, mul-zero, mul-suc, eq-or-lt-of-le, le-of-suc-le-suc}
 use native.Mathlib.Numerals.{add-one}
 use native.Mathlib.Omega.{arith}
 use lib.ListN.{length, getD, set, take, drop, drop-of-length-le, length-append, length-drop}
 use lib.Seq.{sets, sets-eq, take-at, drop-at, drop-drop, length-take-le, drop-cons, set-at, take-suc, take-all, take-add, getD-take, getD-drop}
-use Rattle.basics.specs.Runs.{run, piece}
+use Rattle.basics.specs.Runs.{run, piece, Turned}
 
 -- ---- runs
 module _ (g : ℕ → List ℕ) where
@@ -71,6 +71,27 @@ length-part k j n l h lt =
     let m : k * (j + 1) ≤ k * n = mul-le-mul-left k (omega arith) in
     let e : k * (j + 1) ≡ k * j + k = rw (add-one, mul-suc) in
     rw (add-sub-cancel-left (k * j) k) (length-take-le k (drop (k * j) l) (rw length-drop (omega arith)))
+
+-- ---- pieces turned one by one, each lent as a part and stored by way of a part
+module _ {F : List ℕ → List ℕ} {a b : ℕ} {l d : List ℕ} where
+  pub turned-none : Turned F a b l d 0 d
+  unfolding run
+  turned-none = record { long = refl; is = rw mul-zero }
+
+  pub turned-more : ((r : List ℕ) → length (F r) ≡ b) → (j : ℕ) {x ys : List ℕ} → Turned F a b l d j x → ys ≡ F (take (a * j + a - a * j) (drop (a * j) l))
+      → length ys ≡ length (midOf (b * j) (b * j + b - b * j) x) → Turned F a b l d (j + 1) (putMid (b * j) (b * j + b - b * j) x ys)
+  turned-more each j {x} {ys} t e same = record {
+    long = same-len-mid (b * j) (b * j + b - b * j) x ys same ∙ t .long;
+    is = run-more (λ i. F (piece a i l)) b (λ i. each _) j d x ys (t .is) (e ∙ ap F (part-piece a j l));
+  }
+
+  -- the part that is read next has a, and the part that is written b
+  pub turned-parts : (j n : ℕ) {x : List ℕ} → Turned F a b l d j x → j < n → a * n ≤ length l → b * n ≤ length d
+      → (length (take (a * j + a - a * j) (drop (a * j) l)) ≡ a) × (length (take (b * j + b - b * j) (drop (b * j) x)) ≡ b)
+  turned-parts j n {x} t lt la lb = (length-part a j n l la lt, length-part b j n x (omega (arith, t .long, lb)) lt)
+
+  pub turned-all : {j n : ℕ} {x : List ℕ} → Turned F a b l d j x → j ≡ n → Turned F a b l d n x
+  turned-all t e = rw (← e) t
 
 -- ---- there and back: a head, K pieces of a and M of b, each turned into other pieces by F and G and back by F′ and G′
 module _

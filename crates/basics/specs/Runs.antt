@@ -1,7 +1,8 @@
 -- Lists put one behind the other, and a list parted into pieces of one length.
 use Prim.Native.Nat.{ℕ, zero, suc, _*_}
 use mathlib.Core.List.{List, [], _++_}
-use lib.ListN.{take, drop}
+use mathlib.Core.Path.{_≡_}
+use lib.ListN.{length, take, drop}
 
 -- g 0, g 1, .., g (n - 1), one behind the other
 unfoldable pub run : ℕ → (ℕ → List ℕ) → List ℕ
@@ -11,3 +12,8 @@ run (suc n) g = run n g ++ g n
 -- piece j of a list whose pieces have k elements each
 abbrev pub piece : ℕ → ℕ → List ℕ → List ℕ
 piece k j l = take k (drop (k * j) l)
+
+-- the first n pieces of l, of a each, are turned by F into b each, and stand so in front of what d held: that is x
+pub record Turned (F : List ℕ → List ℕ) (a b : ℕ) (l d : List ℕ) (n : ℕ) (x : List ℕ) : Type 0 where
+  pub long : length x ≡ length d
+  pub is : x ≡ run n (λ i. F (piece a i l)) ++ drop (b * n) d

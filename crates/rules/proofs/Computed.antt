@@ -12,15 +12,27 @@ use borrow.Author.Tests.{eq-eqb, ne-eqb, not-true, not-false}
 use Rattle.basics.proofs.Tests.{true-T, parts}
 use Rattle.rules.specs.declared.Fault.the-variants.{Clear, Bad}
 use Rattle.rules.specs.declared.Refusal.the-variants.{Range, Width, Late}
-use Rattle.rules.specs.Problem.{cycle, columns, messages, start, width, field, size, period, offset, deadline, frame, repeat, column, row, Placed}
+use Rattle.rules.specs.Problem.{columnAt, messageAt, cycle, columns, messages, start, width, field, period, offset, deadline, lasts, repeat, column, row, Placed, WellFormed}
 use Rattle.rules.specs.Tests.{inRange, fits, wait, timely, common, meets, ownFault}
-use Rattle.rules.specs.Parts.{Member, Period, Repeat, First, Wait}
+use Rattle.rules.specs.Parts.{Member, Start, Width as WidthIs, Period, Repeat, First, Wait}
 use Rattle.rules.proofs.Digits.{mod-once}
 use Rattle.rules.proofs.Bounds.{period-is, repeat-least, repeat-most}
 use Rattle.rules.proofs.Columns.{in-cycle}
 
-pub field-at : {p : List ℕ} {j n r : ℕ} → Member p j → (k : ℕ) → n ≡ columns p → (r ≡ getD p (7 + 2 * n + 7 * j + k) 0) × (r < 4294967296) → (r ≡ field p j k) × (r < 4294967296)
-field-at m k e h = (rw e at (h .0), h .1)
+-- words of a column and of a message, read where they stand
+module _ {p : List ℕ} {c a r : ℕ} (wf : WellFormed p) (l : c < columns p) (at : a ≡ columnAt c) where
+  pub start-at : r ≡ getD p a 0 → Start p c r
+  start-at e = let is : r ≡ start p c = rw at at e in record { is = is; most = let rule = wf .column c l in omega arith }
+
+  pub width-at : r ≡ getD p (a + 1) 0 → WidthIs p c r
+  width-at e =
+      let is : r ≡ width p c = rw at at e in
+      let rule = wf .column c l in
+      record { is = is; least = omega arith; most = omega arith }
+
+pub field-at : {p : List ℕ} {j n a r : ℕ} → Member p j → (k : ℕ) → n ≡ columns p → a ≡ messageAt n j → (r ≡ getD p (a + k) 0) × (r < 4294967296)
+    → (r ≡ field p j k) × (r < 4294967296)
+field-at m k e h w = (rw (h, e) at (w .0), w .1)
 
 pub repeat-of : {p : List ℕ} {j a b : ℕ} → Member p j → a ≡ period p j → b ≡ cycle p → Repeat p j (a / b)
 repeat-of {p} {j} {a} {b} m ea eb =
@@ -62,11 +74,11 @@ module _ {p : List ℕ} {j : ℕ} (m : Member p j) (c r : ℕ) where
   unfolding inRange
   range-is ek en = rw (ek, en)
 
-  pub fits-is : {f w : ℕ} → f ≡ frame (size p j) → w ≡ width p c → leb f w ≡ fits p j c
+  pub fits-is : {f w : ℕ} → f ≡ lasts p j → w ≡ width p c → leb f w ≡ fits p j c
   unfolding fits
   fits-is ef ew = rw (ef, ew)
 
-  pub timely-is : {t f d : ℕ} → t ≡ wait p j c r → f ≡ frame (size p j) → d ≡ deadline p j → leb (t + f) d ≡ timely p j c r
+  pub timely-is : {t f d : ℕ} → t ≡ wait p j c r → f ≡ lasts p j → d ≡ deadline p j → leb (t + f) d ≡ timely p j c r
   unfolding timely
   timely-is et ef ed = rw (et, ef, ed)
 

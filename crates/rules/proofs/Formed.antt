@@ -1,4 +1,4 @@
--- The rules of a problem, tested and stated: a test finds nothing exactly where its rule is kept.
+-- The rules of a problem, tested and stated: a test finds nothing exactly where its rule is kept, and the whole chain exactly where the problem is well-formed.
 use Prim.Native.Nat.{ℕ, zero, suc, _+_, _*_, _^_, _≤_, _<_}
 use mathlib.Core.Path.{_≡_, refl}
 use mathlib.Core.Bool.{Bool, true, false, _&&_, not}
@@ -6,25 +6,23 @@ use mathlib.Core.List.{List}
 use mathlib.Core.Logic.{_↔_}
 use native.Mathlib.Decide.{decLt}
 use native.Mathlib.Omega.{arith}
-use lib.Dec.{T, leb, ltb, eqb}
+use lib.Dec.{leb, ltb, eqb}
 use lib.ListN.{length}
 use lib.Pow.{pow-mono}
 use borrow.Author.Tests.{ltb-false, leb-true, leb-false, eqb-true, eqb-false, le-ltb, le-leb, lt-leb, eq-eqb, ne-eqb, not-true, not-false}
 use Rattle.basics.specs.Bits.{bit}
-use Rattle.basics.specs.Tests.{every, some}
+use Rattle.basics.specs.Tests.{outside, some}
 use Rattle.basics.proofs.Bits.{bit-two}
-use Rattle.basics.proofs.Tests.{T-true, or-false, and-true, either, none-at, at-none, some-at, some-on, some-off, some-none, left, right, joined}
-use Rattle.rules.specs.Problem.{rows, cycle, refLen, refId, limit, columns, messages, start, width, identifier, sender, size, receivers, period, offset, deadline, wordCount, earliest, triggers, Header, Column, Identity, Timing, WellFormed}
-use Rattle.rules.specs.Rules.{outside, isRowCount, headerWrong, columnWrong, repeated, identityWrong, onGrid, timingWrong, overloaded, wellFormed}
+use Rattle.basics.proofs.Tests.{within, inside, or-false, and-true, either, some-at, some-on, some-off, some-none}
+use Rattle.rules.specs.Problem.{rows, cycle, refLen, refId, limit, columns, messages, start, width, identifier, sender, size, receivers, period, offset, deadline, headerWords, wordCount, earliest, nodes, triggers, Header, Column, Identity, Timing, WellFormed}
+use Rattle.rules.specs.declared.Fault.the-variants.{Clear}
+use Rattle.rules.specs.declared.Refusal.the-variants.{Length, Header as BadHeader, Identity as BadIdentity}
+use Rattle.rules.specs.Refusal.{guard, firstFault}
+use Rattle.rules.specs.Rules.{isRowCount, headerFault, columnWrong, repeated, identityWrong, onGrid, timingWrong, overloaded, columnFault, messageFault, nodeFault, wordsFault, problemFault}
+use Rattle.rules.proofs.Faults.{clear-guard, clear-both, clear-test, clear-first, first-clear}
 
 positive : {n : ℕ} → (n ≡ 0 → ⊥) → 1 ≤ n
 positive h = omega arith
-
-within : {x lo hi : ℕ} → outside x lo hi ≡ false → (lo ≤ x) × (x ≤ hi)
-within {x} {lo} {hi} e = let a = or-false (ltb x lo) (ltb hi x) e in (ltb-false _ _ (a .0), ltb-false _ _ (a .1))
-
-inside : (x lo hi : ℕ) → lo ≤ x → x ≤ hi → outside x lo hi ≡ false
-inside x lo hi h l = rw (le-ltb x lo h, le-ltb hi x l)
 
 -- ---- the rows
 pub power-of-rows : (r : ℕ) → isRowCount r ≡ true → (k : ℕ) × (k < 7) × (r ≡ 2 ^ k)
@@ -58,36 +56,40 @@ rows-of-power (suc (suc (suc (suc (suc (suc (suc k))))))) l = absurd (omega arit
 
 module _ (p : List ℕ) where
   -- ---- the header
-  pub header-kept : (headerWrong p ≡ false) ↔ Header p
-  unfolding headerWrong
+  pub header-kept : (headerFault p ≡ Clear) ↔ Header p
+  unfolding headerFault
   header-kept = (stated, tested)
     where
-      stated : headerWrong p ≡ false → Header p
+      stated : headerFault p ≡ Clear → Header p
       stated e =
-          let m = or-false _ (ltb 64 (messages p)) e in
-          let k = or-false _ (outside (columns p) 1 32) (m .0) in
-          let l = or-false _ (outside (limit p) 1 32) (k .0) in
-          let i = or-false _ (ltb 2047 (refId p)) (l .0) in
-          let f = or-false _ (outside (refLen p) 65 (cycle p)) (i .0) in
-          let b = or-false (not (isRowCount (rows p))) (outside (cycle p) 1 65535) (f .0) in
-          let r = power-of-rows (rows p) (not-false _ (b .0)) in
+          let b = clear-both (guard (not (isRowCount (rows p))) BadHeader) _ e in
+          let f = clear-both (guard (outside (cycle p) 1 65535) BadHeader) _ (b .1) in
+          let i = clear-both (guard (outside (refLen p) 65 (cycle p)) BadHeader) _ (f .1) in
+          let l = clear-both (guard (ltb 2047 (refId p)) BadHeader) _ (i .1) in
+          let k = clear-both (guard (outside (limit p) 1 32) BadHeader) _ (l .1) in
+          let m = clear-both (guard (outside (columns p) 1 32) BadHeader) _ (k .1) in
+          let cycles = within (cycle p) 1 65535 (clear-guard _ _ (f .0)) in
+          let references = within (refLen p) 65 (cycle p) (clear-guard _ _ (i .0)) in
+          let limits = within (limit p) 1 32 (clear-guard _ _ (k .0)) in
+          let column-counts = within (columns p) 1 32 (clear-guard _ _ (m .0)) in
+          let r = power-of-rows (rows p) (clear-test _ _ (b .0)) in
           record {
             rows-power = r .0;
             rows-is = r .2;
             rows-most = omega (arith, r .2, pow-mono {i = r .0} {j = 6} (omega (arith, r .1)));
-            cycle-least = within (b .1) .0;
-            cycle-most = within (b .1) .1;
-            reference-least = within (f .1) .0;
-            reference-most = within (f .1) .1;
-            reference-identifier = ltb-false _ _ (i .1);
-            limit-least = within (l .1) .0;
-            limit-most = within (l .1) .1;
-            columns-least = within (k .1) .0;
-            columns-most = within (k .1) .1;
-            messages-most = ltb-false _ _ (m .1);
+            cycle-least = cycles .0;
+            cycle-most = cycles .1;
+            reference-least = references .0;
+            reference-most = references .1;
+            reference-identifier = ltb-false _ _ (clear-guard _ _ (l .0));
+            limit-least = limits .0;
+            limit-most = limits .1;
+            columns-least = column-counts .0;
+            columns-most = column-counts .1;
+            messages-most = ltb-false _ _ (clear-guard _ _ (m .1));
           }
 
-      tested : Header p → headerWrong p ≡ false
+      tested : Header p → headerFault p ≡ Clear
       tested h =
           let r : isRowCount (rows p) ≡ true = rw (h .rows-is) (rows-of-power (h .rows-power) (small-power (h .rows-power) (omega (arith, h .rows-is, h .rows-most)))) in
           rw (
@@ -213,40 +215,40 @@ module _ (p : List ℕ) where
   triggers-kept n = (λ e. ltb-false _ _ e, λ h. le-ltb (limit p) (triggers p n) h)
 
   -- ---- and all of them
-  pub formed : T (wellFormed p) ↔ WellFormed p
-  unfolding wellFormed
-  formed = (stated, tested)
-    where
-      stated : T (wellFormed p) → WellFormed p
-      stated t =
-          let columns-fine : Bool = every (columns p) (λ c. not (columnWrong p c)) in
-          let identities-fine : Bool = every (messages p) (λ j. not (identityWrong p j)) in
-          let times-fine : Bool = every (messages p) (λ j. not (timingWrong p j)) in
-          let nodes-fine : Bool = every 16 (λ n. not (overloaded p n)) in
-          let whole : Bool = eqb (length p) (wordCount p) in
-          let to-words : Bool = not (headerWrong p) && whole in
-          let to-columns : Bool = to-words && columns-fine in
-          let to-identities : Bool = to-columns && identities-fine in
-          let to-times : Bool = to-identities && times-fine in
-          let d : T to-times = left to-times nodes-fine t in
-          let c : T to-identities = left to-identities times-fine d in
-          let b : T to-columns = left to-columns identities-fine c in
-          let a : T to-words = left to-words columns-fine b in
-          let header = header-kept .0 (not-true _ (T-true _ (left (not (headerWrong p)) whole a))) in
-          record {
-            header = header;
-            words = eqb-true _ _ (T-true _ (right (not (headerWrong p)) whole a));
-            column = λ k l. column-kept k .0 (none-at (columns p) (columnWrong p) (right to-words columns-fine b) k l);
-            identity = λ j l. identity-kept j .0 (none-at (messages p) (identityWrong p) (right to-columns identities-fine c) j l);
-            timing = λ j l. timing-kept header j .0 (none-at (messages p) (timingWrong p) (right to-identities times-fine d) j l);
-            triggers-most = λ k l. triggers-kept k .0 (none-at 16 (overloaded p) (right to-times nodes-fine t) k l);
-          }
+  message-parts : (j : ℕ) → messageFault p j ≡ Clear → (identityWrong p j ≡ false) × (timingWrong p j ≡ false)
+  message-parts j e = let a = clear-both (guard (identityWrong p j) (BadIdentity j)) _ e in (clear-guard _ _ (a .0), clear-guard _ _ (a .1))
 
-      tested : WellFormed p → T (wellFormed p)
-      tested h =
-          let a = at-none (columns p) (columnWrong p) (λ c l. column-kept c .1 (h .column c l)) in
-          let b = at-none (messages p) (identityWrong p) (λ j l. identity-kept j .1 (h .identity j l)) in
-          let c = at-none (messages p) (timingWrong p) (λ j l. timing-kept (h .header) j .1 (h .timing j l)) in
-          let d = at-none 16 (overloaded p) (λ n l. triggers-kept n .1 (h .triggers-most n l)) in
-          let e : T (not (headerWrong p) && eqb (length p) (wordCount p)) = rw (header-kept .1 (h .header), eq-eqb (length p) (wordCount p) (h .words)) tt in
-          search joined depth 12
+  pub words-formed : Header p → length p ≡ wordCount p → wordsFault p ≡ Clear → WellFormed p
+  unfolding wordsFault
+  words-formed h w e =
+      let a = clear-both (firstFault (columns p) (columnFault p)) _ e in
+      let b = clear-both (firstFault (messages p) (messageFault p)) _ (a .1) in
+      record {
+        header = h;
+        words = w;
+        column = λ c l. column-kept c .0 (clear-guard _ _ (clear-first _ _ (a .0) c l));
+        identity = λ j l. identity-kept j .0 (message-parts j (clear-first _ _ (b .0) j l) .0);
+        timing = λ j l. timing-kept h j .0 (message-parts j (clear-first _ _ (b .0) j l) .1);
+        triggers-most = λ n l. triggers-kept n .0 (clear-guard _ _ (clear-first _ _ (b .1) n l));
+      }
+
+  pub formed-words : WellFormed p → wordsFault p ≡ Clear
+  unfolding wordsFault
+  formed-words f =
+      let a : firstFault (columns p) (columnFault p) ≡ Clear = first-clear _ _ λ c l. rw (column-kept c .1 (f .column c l)) in
+      let b : firstFault (messages p) (messageFault p) ≡ Clear =
+      first-clear _ _ λ j l. rw (identity-kept j .1 (f .identity j l), timing-kept (f .header) j .1 (f .timing j l)) in
+      let d : firstFault nodes (nodeFault p) ≡ Clear = first-clear _ _ λ n l. rw (triggers-kept n .1 (f .triggers-most n l)) in
+      rw (a, b, d)
+
+  -- the chain finds nothing exactly where the words are those of a well-formed problem
+  pub problem-kept : (problemFault p ≡ Clear) ↔ WellFormed p
+  unfolding problemFault
+  problem-kept = (
+    λ e.
+        let a = clear-both (guard (ltb (length p) headerWords) Length) _ e in
+        let b = clear-both (headerFault p) _ (a .1) in
+        let d = clear-both (guard (not (eqb (length p) (wordCount p))) Length) _ (b .1) in
+        words-formed (header-kept .0 (b .0)) (eqb-true _ _ (clear-test _ _ (d .0))) (d .1),
+    λ f. simp (le-ltb (length p) headerWords (omega (arith, f .words)), header-kept .1 (f .header), eq-eqb (length p) (wordCount p) (f .words), formed-words f),
+  )

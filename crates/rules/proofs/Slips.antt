@@ -1,7 +1,6 @@
 -- The four slips of document 01 beside the plans that they spoil, computed as one table.
 use Prim.Native.Nat.{ℕ}
 use mathlib.Core.Path.{_≡_, refl}
-use mathlib.Core.Bool.{Bool}
 use mathlib.Core.List.{List, [], _∷_}
 use Rattle.basics.specs.Bits.{bit}
 use Rattle.basics.specs.Sums.{sum}
@@ -12,9 +11,9 @@ use Rattle.rules.specs.declared.Refusal.the-variants.{Width, Late, Meeti
 use Rattle.rules.specs.Problem.{earliest, triggers, column, row, InRange}
 use Rattle.rules.specs.Sends.{Acceptable}
 use Rattle.rules.specs.Refusal.{firstFault}
-use Rattle.rules.specs.Tests.{inRange, fits, wait, timely, common, meets, clear, ownFault, fault, proposalFault}
-use Rattle.rules.specs.Rules.{headerWrong, columnWrong, repeated, identityWrong, onGrid, timingWrong, overloaded, wellFormed}
-use Rattle.rules.proofs.Formed.{formed}
+use Rattle.rules.specs.Tests.{inRange, fits, wait, timely, common, meets, ownFault, meetingFault, fault, proposalFault}
+use Rattle.rules.specs.Rules.{headerFault, columnWrong, repeated, identityWrong, onGrid, timingWrong, overloaded, wordsFault, problemFault}
+use Rattle.rules.proofs.Formed.{problem-kept}
 use Rattle.basics.proofs.Tests.{every-at}
 use Rattle.rules.proofs.Faults.{bad-not-clear}
 use Rattle.rules.proofs.Meaning.{range-placed}
@@ -41,7 +40,7 @@ late = 1 ∷ 400 ∷ 65 ∷ 1 ∷ 32 ∷ 1 ∷ 1 ∷ 200 ∷ 100 ∷ 16 ∷ 0 �
 
 -- what a plan comes to; `unfolding seen` opens all that a table has to compute
 seen : List ℕ → List ℕ → Fault
-unfolding proposalFault firstFault fault ownFault inRange fits timely clear meets common every wait t1 two late
+unfolding proposalFault firstFault fault ownFault inRange fits timely meetingFault meets common wait t1 two late
 seen p w = proposalFault p w
 
 table : (
@@ -64,14 +63,14 @@ unfolding seen
 table = refl
 
 -- so by the theorem the sends of the second slip are acceptable, and those of the fourth are not
-kept : List ℕ → Bool
-unfolding wellFormed headerWrong columnWrong identityWrong repeated timingWrong onGrid overloaded triggers sum bit earliest every some t1 late
-kept p = wellFormed p
+kept : List ℕ → Fault
+unfolding problemFault headerFault wordsFault firstFault columnWrong identityWrong repeated timingWrong onGrid overloaded triggers sum bit earliest every some t1 late
+kept p = problemFault p
 
 early-send-acceptable : Acceptable (t1 300 700) (0 ∷ 0 ∷ 1 ∷ 1 ∷ 1 ∷ 0 ∷ [])
 unfolding seen kept
 early-send-acceptable =
-    exact (t1 300 700) (0 ∷ 0 ∷ 1 ∷ 1 ∷ 1 ∷ 0 ∷ []) (formed (t1 300 700) .0 tt) .0 refl .1
+    exact (t1 300 700) (0 ∷ 0 ∷ 1 ∷ 1 ∷ 1 ∷ 0 ∷ []) (problem-kept (t1 300 700) .0 refl) .0 refl .1
 
 late-release-not : ¬ Acceptable late (0 ∷ 0 ∷ [])
 unfolding seen kept
@@ -81,4 +80,4 @@ late-release-not a =
       words = refl;
       placed = λ j l. range-placed late j (column w j) (row w j) (every-at 1 (λ j. inRange late j (column w j) (row w j)) tt j l);
     } in
-    bad-not-clear (exact late w (formed late .0 tt) .1 (in-range, a)) refl
+    bad-not-clear (exact late w (problem-kept late .0 refl) .1 (in-range, a)) refl

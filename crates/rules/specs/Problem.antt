@@ -30,16 +30,26 @@ columns p = getD p 5 0
 abbrev pub messages : List ℕ → ℕ
 messages p = getD p 6 0
 
+-- where the words stand: seven of the header, then two for column c, then, behind k columns, seven for message j
+abbrev pub headerWords : ℕ
+headerWords = 7
+
+abbrev pub columnAt : ℕ → ℕ
+columnAt c = headerWords + 2 * c
+
+abbrev pub messageAt : ℕ → ℕ → ℕ
+messageAt k j = columnAt k + 7 * j
+
 -- of column c
 abbrev pub start : List ℕ → ℕ → ℕ
-start p c = getD p (7 + 2 * c) 0
+start p c = getD p (columnAt c) 0
 
 abbrev pub width : List ℕ → ℕ → ℕ
-width p c = getD p (8 + 2 * c) 0
+width p c = getD p (columnAt c + 1) 0
 
 -- word k of message j, and the seven by name
 abbrev pub field : List ℕ → ℕ → ℕ → ℕ
-field p j k = getD p (7 + 2 * columns p + 7 * j + k) 0
+field p j k = getD p (messageAt (columns p) j + k) 0
 
 abbrev pub identifier : List ℕ → ℕ → ℕ
 identifier p j = field p j 0
@@ -62,26 +72,42 @@ offset p j = field p j 5
 abbrev pub deadline : List ℕ → ℕ → ℕ
 deadline p j = field p j 6
 
--- how many words a problem has
-abbrev pub wordCount : List ℕ → ℕ
-wordCount p = 7 + 2 * columns p + 7 * messages p
+-- how many words k columns and m messages make, and how many a problem has
+abbrev pub wordsFor : ℕ → ℕ → ℕ
+wordsFor k m = messageAt k m
 
--- how long an 11-bit frame with s data bytes takes, worst-case stuffing and interframe space included
+abbrev pub wordCount : List ℕ → ℕ
+wordCount p = wordsFor (columns p) (messages p)
+
+-- how long an 11-bit frame with s data bytes takes, worst-case stuffing and interframe space included, and C, a frame of message j
 abbrev pub frame : ℕ → ℕ
 frame s = 55 + 10 * s
+
+abbrev pub lasts : List ℕ → ℕ → ℕ
+lasts p j = frame (size p j)
 
 -- every how many rows message j is sent
 abbrev pub repeat : List ℕ → ℕ → ℕ
 repeat p j = period p j / cycle p
 
--- ---- the words of a proposal w
+-- ---- the words of a proposal w: two for each message
+abbrev pub proposalWords : List ℕ → ℕ
+proposalWords p = 2 * messages p
+
+-- w has those of message j
+abbrev pub Gives : List ℕ → ℕ → Type 0
+Gives w j = 2 * j + 1 < length w
+
 abbrev pub column : List ℕ → ℕ → ℕ
 column w j = getD w (2 * j) 0
 
 abbrev pub row : List ℕ → ℕ → ℕ
 row w j = getD w (2 * j + 1) 0
 
--- ---- the triggers of a node: 1 for the reference, 1 for each message it sends, 1 for each it receives
+-- ---- the triggers of a node, of which there are 16: 1 for the reference, 1 for each message it sends, 1 for each it receives
+abbrev pub nodes : ℕ
+nodes = 16
+
 abbrev pub sends : List ℕ → ℕ → ℕ → Bool
 sends p n j = eqb (sender p j) n
 
@@ -145,7 +171,7 @@ pub record WellFormed (p : List ℕ) : Type 0 where
   pub identity : (j : ℕ) → j < messages p → Identity p j
   pub timing : (j : ℕ) → j < messages p → Timing p j
   -- all 16 nodes count, silent ones too
-  pub triggers-most : (n : ℕ) → n < 16 → triggers p n ≤ limit p
+  pub triggers-most : (n : ℕ) → n < nodes → triggers p n ≤ limit p
 
 -- ---- a column and a base row that message j can have, and a proposal that gives every message such
 pub record Placed (p : List ℕ) (j c r : ℕ) : Type 0 where
@@ -153,5 +179,21 @@ pub record Placed (p : List ℕ) (j c r : ℕ) : Type 0 where
   pub row-below : r < repeat p j
 
 pub record InRange (p w : List ℕ) : Type 0 where
-  pub words : length w ≡ 2 * messages p
+  pub words : length w ≡ proposalWords p
   pub placed : (j : ℕ) → j < messages p → Placed p j (column w j) (row w j)
+
+-- ---- how large it can be: no well-formed problem has more rows, columns, messages, triggers a node, and words
+abbrev pub mostRows : ℕ
+mostRows = 64
+
+abbrev pub mostColumns : ℕ
+mostColumns = 32
+
+abbrev pub mostMessages : ℕ
+mostMessages = 64
+
+abbrev pub mostTriggers : ℕ
+mostTriggers = 32
+
+abbrev pub mostWords : ℕ
+mostWords = wordsFor mostColumns mostMessages

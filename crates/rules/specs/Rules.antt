@@ -1,31 +1,31 @@
--- The rules of a problem as tests, to be computed: each says that a rule is broken.
+-- What is wrong with a problem's words: the rules as tests, to be computed, and the first refusal in document 01's order.
 use Prim.Native.Nat.{ℕ, suc, _+_, _*_, _^_}
 use mathlib.Core.Bool.{Bool, _&&_, _||_, not}
 use mathlib.Core.List.{List}
 use lib.Dec.{leb, ltb, eqb}
 use lib.ListN.{length}
 use Rattle.basics.specs.Bits.{bit}
-use Rattle.basics.specs.Tests.{every, some}
-use Rattle.rules.specs.Problem.{rows, cycle, refLen, refId, limit, columns, messages, start, width, identifier, sender, size, receivers, period, offset, deadline, wordCount, earliest, triggers}
-
--- x is not from lo to hi
-abbrev pub outside : ℕ → ℕ → ℕ → Bool
-outside x lo hi = ltb x lo || ltb hi x
+use Rattle.basics.specs.Tests.{outside, some}
+use Rattle.rules.specs.declared.Fault.{Fault}
+use Rattle.rules.specs.declared.Refusal.the-variants.{Length, Header, Column, Identity, Timing, Triggers}
+use Rattle.rules.specs.Refusal.{guard, _⊕_, firstFault}
+use Rattle.rules.specs.Problem.{rows, cycle, refLen, refId, limit, columns, messages, start, width, identifier, sender, size, receivers, period, offset, deadline, headerWords, wordCount, earliest, nodes, triggers}
 
 abbrev pub isRowCount : ℕ → Bool
 isRowCount r = eqb r 1 || eqb r 2 || eqb r 4 || eqb r 8 || eqb r 16 || eqb r 32 || eqb r 64
 
--- a number of the header is outside its range
-unfoldable pub headerWrong : List ℕ → Bool
-headerWrong p =
-    not (isRowCount (rows p))
-    || outside (cycle p) 1 65535
-    || outside (refLen p) 65 (cycle p)
-    || ltb 2047 (refId p)
-    || outside (limit p) 1 32
-    || outside (columns p) 1 32
-    || ltb 64 (messages p)
+-- ---- the header: the first number in file order that is outside its range
+unfoldable pub headerFault : List ℕ → Fault
+headerFault p =
+    guard (not (isRowCount (rows p))) Header
+    ⊕ guard (outside (cycle p) 1 65535) Header
+    ⊕ guard (outside (refLen p) 65 (cycle p)) Header
+    ⊕ guard (ltb 2047 (refId p)) Header
+    ⊕ guard (outside (limit p) 1 32) Header
+    ⊕ guard (outside (columns p) 1 32) Header
+    ⊕ guard (ltb 64 (messages p)) Header
 
+-- ---- the rules behind it as tests: each says that a rule is broken
 -- column c breaks its rule; only the last has that of the cycle's end
 unfoldable pub columnWrong : List ℕ → ℕ → Bool
 columnWrong p c =
@@ -66,12 +66,24 @@ timingWrong p j =
 unfoldable pub overloaded : List ℕ → ℕ → Bool
 overloaded p n = ltb (limit p) (triggers p n)
 
--- no rule is broken
-unfoldable pub wellFormed : List ℕ → Bool
-wellFormed p =
-    not (headerWrong p)
-    && eqb (length p) (wordCount p)
-    && every (columns p) (λ c. not (columnWrong p c))
-    && every (messages p) (λ j. not (identityWrong p j))
-    && every (messages p) (λ j. not (timingWrong p j))
-    && every 16 (λ n. not (overloaded p n))
+-- ---- what is wrong: with a column, a message, a node
+abbrev pub columnFault : List ℕ → ℕ → Fault
+columnFault p c = guard (columnWrong p c) (Column c)
+
+abbrev pub messageFault : List ℕ → ℕ → Fault
+messageFault p j = guard (identityWrong p j) (Identity j) ⊕ guard (timingWrong p j) (Timing j)
+
+abbrev pub nodeFault : List ℕ → ℕ → Fault
+nodeFault p n = guard (overloaded p n) (Triggers n)
+
+-- with the words behind the header: the columns, then message by message, then the nodes
+unfoldable pub wordsFault : List ℕ → Fault
+wordsFault p = firstFault (columns p) (columnFault p) ⊕ firstFault (messages p) (messageFault p) ⊕ firstFault nodes (nodeFault p)
+
+-- with all the words, as they are given to a writer
+unfoldable pub problemFault : List ℕ → Fault
+problemFault p =
+    guard (ltb (length p) headerWords) Length
+    ⊕ headerFault p
+    ⊕ guard (not (eqb (length p) (wordCount p))) Length
+    ⊕ wordsFault p
