@@ -1,7 +1,7 @@
 -- Reading what was written gives the words back, writing what was read gives the file back, and a well-formed problem has one file.
 use Prim.Native.Nat.{ℕ, _+_, _*_, _<_}
 use mathlib.Core.Path.{_≡_, refl, sym, ap, _∙_}
-use mathlib.Core.Bool.{Bool, false, _&&_, _||_}
+use mathlib.Core.Bool.{_&&_}
 use mathlib.Core.List.{List, _++_}
 use native.Mathlib.Omega.{arith}
 use borrow.Author.Tests.{eqb-true}
@@ -12,16 +12,16 @@ use Rattle.basics.proofs.Runs.{there-and-back, getD-piece, length-piece, tab, l
 use Rattle.basics.proofs.Tests.{and-true}
 use Rattle.rules.specs.declared.Fault.the-variants.{Clear, Bad}
 use Rattle.rules.specs.declared.Refusal.{Refusal}
-use Rattle.rules.specs.Problem.{columns, messages, WellFormed}
-use Rattle.rules.specs.Rules.{headerWrong}
+use Rattle.rules.specs.Problem.{columnAt, columns, messages, WellFormed}
+use Rattle.rules.specs.Rules.{headerFault}
 use Rattle.rules.proofs.Bounds.{member, period-most}
 use Rattle.rules.proofs.Faults.{bad-not-clear}
-use Rattle.rules.proofs.Formed.{header-kept}
+use Rattle.rules.proofs.Formed.{header-kept, formed-words}
 use Rattle.problem.specs.File.{headerOf, columnOf, messageOf, columnsIn, messagesIn, wordsOf, headerBytes, columnBytes, messageBytes, fileOf}
 use Rattle.problem.specs.Wrong.{headFault, fileFault}
 use Rattle.problem.proofs.Bytes.{low-small, two-back, high-two, low-two, column-back, message-back, column-forth, message-forth}
 use Rattle.problem.proofs.File.{length-file}
-use Rattle.problem.proofs.Wrong.{head-right, head-clear, file-rest, file-parts, file-formed, formed-words}
+use Rattle.problem.proofs.Wrong.{head-right, head-clear, file-rest, file-parts, file-formed}
 
 -- ---- a file with no fault: its bytes, made words and bytes again
 module _ (f : List ℕ) (small : Small 256 f) (e : headFault f ≡ Clear) where
@@ -107,8 +107,8 @@ module _ (p : List ℕ) (f : WellFormed p) where
   column-turn i l =
       let q = f .column i l in
       column-forth (piece 2 i (drop 7 p)) (length-piece 2 i 7 p (columns p) (omega (arith, f .words)) l)
-      (field-below p 2 i 7 0 (7 + 2 * i) 65536 (omega arith) (omega arith) (omega arith))
-      (field-below p 2 i 7 1 (8 + 2 * i) 65536 (omega arith) (omega arith) (omega arith))
+      (field-below p 2 i 7 0 (columnAt i) 65536 (omega arith) (omega arith) (omega arith))
+      (field-below p 2 i 7 1 (columnAt i + 1) 65536 (omega arith) (omega arith) (omega arith))
 
   message-turn : (j : ℕ) → j < messages p → messageOf (messageBytes (piece 7 j (drop (7 + 2 * columns p) p))) ≡ piece 7 j (drop (7 + 2 * columns p) p)
   message-turn j l =
@@ -138,16 +138,13 @@ module _ (p : List ℕ) (f : WellFormed p) where
       ∙ there-and-back p (headerBytes p) 7 2 7 16 4 18 K M columnBytes messageBytes columnOf messageOf
       refl (λ r. refl) (λ r. refl) (f .words) column-turn message-turn (fileOf p) refl
 
-  header-made : headerWrong (headerOf (fileOf p)) ≡ false
-  unfolding headerWrong
-  header-made = ap headerWrong header-forth ∙ header-kept p .1 (f .header)
+  header-made : headerFault (wordsOf (fileOf p)) ≡ Clear
+  header-made = ap headerFault words-back ∙ header-kept p .1 (f .header)
 
   head-made : headFault (fileOf p) ≡ Clear
   unfolding fileOf
   head-made =
-      sym (head-clear (fileOf p) (omega (arith, length-file p)) refl refl
-      (ap (λ (b : Bool). b || false) header-made)
-      (length-file p ∙ rw (columns-forth, messages-forth)))
+      sym (head-clear (fileOf p) (omega (arith, length-file p)) refl refl refl header-made refl (length-file p ∙ rw (columns-forth, messages-forth)))
 
 -- Reading what was written: the file of a well-formed problem is read, and its words are that problem
 pub read-written : (p : List ℕ) → WellFormed p → (fileFault (fileOf p) ≡ Clear) × (wordsOf (fileOf p) ≡ p)

@@ -6,7 +6,7 @@ use mathlib.Core.List.{List}
 use native.Mathlib.Nat.{pow-suc, mul-le-mul}
 use native.Mathlib.Numerals.{add-one}
 use native.Mathlib.Omega.{arith}
-use borrow.Author.Tests.{lt-ltb, le-ltb, eq-eqb}
+use borrow.Author.Tests.{lt-ltb, le-ltb, eq-eqb, ne-eqb}
 use lib.Dec.{leb, eqb}
 use lib.ListN.{getD}
 use lib.Pow.{pow-mono}
@@ -19,18 +19,9 @@ use Rattle.rules.specs.declared.Refusal.the-variants.{Column, Identity, Timing,
 use Rattle.basics.specs.Sums.{sum, only}
 use Rattle.basics.proofs.Sums.{sum-next}
 use Rattle.rules.specs.Refusal.{firstFault}
-use Rattle.rules.specs.Problem.{limit, columns, messages, start, width, identifier, earliest, sends, receives, triggers}
-use Rattle.rules.specs.Rules.{columnWrong, repeated, identityWrong, onGrid, timingWrong, overloaded}
-use Rattle.problem.specs.Wrong.{columnFault, messageFault, nodeFault, wordsFault}
-
--- ---- a number below 2^k has no digit k, nor any above
-pub bit-above : (n k : ℕ) → n < 2 ^ k → bit n k ≡ 0
-unfolding bit
-bit-above n zero h = omega arith
-bit-above n (suc k) h = bit-above (n / 2) k (omega (arith, pow-suc 2 k))
-
-pub no-digit : (x k : ℕ) → x < 4294967296 → 32 ≤ k → false ≡ eqb (bit x k) 1
-no-digit x k h l = rw (bit-above x k (omega (arith, pow-mono l)))
+use Rattle.rules.specs.Problem.{messageAt, limit, columns, messages, start, width, field, identifier, sender, receivers, earliest, sends, receives, nodes, triggers}
+use Rattle.rules.specs.Rules.{columnWrong, repeated, identityWrong, onGrid, timingWrong, overloaded, columnFault, messageFault, nodeFault, wordsFault}
+use Rattle.problem.specs.Parts.{Counted, HasColumn, HasMessage}
 
 -- ---- periods
 pub power-small : (k p : ℕ) → k < 7 → p ≡ 2 ^ k → p ≤ 64
@@ -57,7 +48,7 @@ module _ (r b t : ℕ) where
 -- ---- columns
 pub earliest-next : (p : List ℕ) (c : ℕ) → start p c + width p c ≡ earliest p (c + 1)
 unfolding earliest
-earliest-next p c = rw add-one
+earliest-next p c = rw (add-one c)
 
 module _ (p : List ℕ) (c : ℕ) where
   pub column-clear : columnWrong p c ≡ false → columnFault p c ≡ Clear
@@ -66,18 +57,32 @@ module _ (p : List ℕ) (c : ℕ) where
   pub column-bad : columnWrong p c ≡ true → columnFault p c ≡ Bad (Column c)
   column-bad h = rw h
 
+pub has-column : {p : List ℕ} {k m c : ℕ} → Counted p k m → c < k → HasColumn p c
+has-column h l = record { inside = omega arith; few = omega arith }
+
+-- ---- a message's words, read where they stand
+pub field-here : {p : List ℕ} {k j a r : ℕ} (i : ℕ) → HasMessage p k j → a ≡ messageAt k j → r ≡ getD p (a + i) 0 → r ≡ field p j i
+field-here i m at e = rw (at, m .columns-are) at e
+
+-- a message before one that p has
+pub has-earlier : {p : List ℕ} {k j i : ℕ} → HasMessage p k j → i < j → HasMessage p k i
+has-earlier m l = record { columns-are = m .columns-are; inside = omega arith; few-columns = m .few-columns; few = omega arith }
+
+pub has-message : {p : List ℕ} {k m j : ℕ} → Counted p k m → j < m → HasMessage p k j
+has-message h l = record { columns-are = h .columns-are; inside = omega arith; few-columns = h .columns-most; few = omega arith }
+
 -- ---- identifiers
-module _ (p : List ℕ) (base j : ℕ) (base-is : base ≡ 7 + 2 * columns p) where
-  word-of : (i : ℕ) → getD p (base + 7 * i) 0 ≡ identifier p i
-  word-of i = ap (λ (n : ℕ). getD p n 0) (omega arith)
-
-  pub repeated-found : (i : ℕ) → i < j → getD p (base + 7 * i) 0 ≡ getD p (base + 7 * j) 0 → true ≡ repeated p j
+module _ (p : List ℕ) (j : ℕ) where
+  pub repeated-found : {a b : ℕ} (i : ℕ) → i < j → a ≡ identifier p i → b ≡ identifier p j → a ≡ b → true ≡ repeated p j
   unfolding repeated
-  repeated-found i l e = sym (some-on j i _ l (eq-eqb _ _ (sym (word-of i) ∙ e ∙ word-of j)))
+  repeated-found i l ea eb e = sym (some-on j i _ l (eq-eqb _ _ (sym ea ∙ e ∙ eb)))
 
-  pub repeated-none : ((i : ℕ) → i < j → eqb (getD p (base + 7 * i) 0) (getD p (base + 7 * j) 0) ≡ false) → false ≡ repeated p j
+  pub not-repeated : {a b : ℕ} (i : ℕ) → a ≡ identifier p i → b ≡ identifier p j → (a ≡ b → ⊥) → eqb (identifier p i) (identifier p j) ≡ false
+  not-repeated i ea eb h = ne-eqb _ _ (λ e. h (ea ∙ e ∙ sym eb))
+
+  pub repeated-none : ((i : ℕ) → i < j → eqb (identifier p i) (identifier p j) ≡ false) → false ≡ repeated p j
   unfolding repeated
-  repeated-none h = sym (some-off j _ λ i l. rw (← word-of i, ← word-of j) (h i l))
+  repeated-none h = sym (some-off j _ h)
 
 -- ---- messages
 module _ (p : List ℕ) (j : ℕ) where
@@ -91,19 +96,18 @@ module _ (p : List ℕ) (j : ℕ) where
   message-clear h t = rw (h, t)
 
 -- ---- triggers
--- what message j is to node n
-abbrev pub share : List ℕ → ℕ → ℕ → ℕ
-share p n j = only (sends p n j) 1 + only (receives p n j) 1
+-- what message j needs at node n
+abbrev pub needed : List ℕ → ℕ → ℕ → ℕ
+needed p n j = only (sends p n j) 1 + only (receives p n j) 1
 
-pub share-next : (p : List ℕ) (n j base a b count : ℕ) → base ≡ 7 + 2 * columns p
-    → a ≡ only (eqb (getD p (base + 7 * j + 1) 0) n) 1 → b ≡ only (eqb (bit (getD p (base + 7 * j + 3) 0) n) 1) 1
-    → count ≡ 1 + sum j (share p n) → count + a + b ≡ 1 + sum (j + 1) (share p n)
-share-next p n j base a b count base-is ha hb h =
-    let s : a ≡ only (sends p n j) 1 = rw (← base-is) ha in
-    let r : b ≡ only (receives p n j) 1 = rw (← base-is) hb in
-    omega (arith, sum-next j (share p n))
+pub needed-next : (p : List ℕ) (n j : ℕ) {s r a b count : ℕ} → s ≡ sender p j → r ≡ receivers p j → a ≡ only (eqb s n) 1 → b ≡ only (eqb (bit r n) 1) 1
+    → count ≡ 1 + sum j (needed p n) → count + a + b ≡ 1 + sum (j + 1) (needed p n)
+needed-next p n j es er ha hb h =
+    let sent = rw es at ha in
+    let received = rw er at hb in
+    omega (arith, sum-next j (needed p n), sent, received)
 
-pub triggers-counted : (p : List ℕ) (n m count : ℕ) → m ≡ messages p → count ≡ 1 + sum m (share p n) → count ≡ triggers p n
+pub triggers-counted : (p : List ℕ) (n m count : ℕ) → m ≡ messages p → count ≡ 1 + sum m (needed p n) → count ≡ triggers p n
 unfolding triggers
 triggers-counted p n m count e h = rw (← e) h
 
@@ -127,6 +131,6 @@ module _ (p : List ℕ) (k m : ℕ) (columns-are : k ≡ columns p) (messages-ar
     unfolding wordsFault
     words-of-messages x q e b = rw (← columns-are, ← messages-are, clear, ← e, b)
 
-    pub words-of-nodes : (x : Fault) → firstFault m (messageFault p) ≡ Clear → x ≡ firstFault 16 (nodeFault p) → x ≡ wordsFault p
+    pub words-of-nodes : (x : Fault) → firstFault m (messageFault p) ≡ Clear → x ≡ firstFault nodes (nodeFault p) → x ≡ wordsFault p
     unfolding wordsFault
     words-of-nodes x e n = rw (← columns-are, ← messages-are, clear, e) n

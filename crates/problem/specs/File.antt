@@ -3,7 +3,7 @@ use Prim.Native.Nat.{ℕ, _+_, _*_, _/_, _%_}
 use mathlib.Core.List.{List, [], _∷_, _++_}
 use lib.ListN.{getD, drop}
 use Rattle.basics.specs.Runs.{run, piece}
-use Rattle.rules.specs.Problem.{columns, messages}
+use Rattle.rules.specs.Problem.{headerWords, columnAt, rows, cycle, refLen, refId, limit, columns, messages}
 
 -- ---- from bytes to words
 -- the number that the two bytes at i are, and that the four bytes are
@@ -32,12 +32,23 @@ columnsIn f = getD f 13 0
 abbrev pub messagesIn : List ℕ → ℕ
 messagesIn f = getD f 14 0
 
+-- a file's records stand behind a header of 16 bytes: 4 for column c, then, behind k columns, 18 for each message
+abbrev pub headBytes : ℕ
+headBytes = 16
+
+abbrev pub columnByte : ℕ → ℕ
+columnByte c = headBytes + 4 * c
+
+-- how many bytes the file of k columns and m messages has
+abbrev pub bytesFor : ℕ → ℕ → ℕ
+bytesFor k m = columnByte k + 18 * m
+
 -- the words of a file: after the header come the column records, then the message records
 unfoldable pub wordsOf : List ℕ → List ℕ
 wordsOf f =
     headerOf f
-    ++ run (columnsIn f) (λ c. columnOf (piece 4 c (drop 16 f)))
-    ++ run (messagesIn f) (λ j. messageOf (piece 18 j (drop (16 + 4 * columnsIn f) f)))
+    ++ run (columnsIn f) (λ c. columnOf (piece 4 c (drop headBytes f)))
+    ++ run (messagesIn f) (λ j. messageOf (piece 18 j (drop (columnByte (columnsIn f)) f)))
 
 -- ---- from words to bytes
 abbrev pub low : ℕ → ℕ
@@ -56,11 +67,11 @@ top x = high (x / 65536)
 abbrev pub headerBytes : List ℕ → List ℕ
 headerBytes p =
     84 ∷ 83 ∷ 77 ∷ 0 ∷ 1
-    ∷ low (getD p 0 0)
-    ∷ high (getD p 1 0) ∷ low (getD p 1 0)
-    ∷ high (getD p 2 0) ∷ low (getD p 2 0)
-    ∷ high (getD p 3 0) ∷ low (getD p 3 0)
-    ∷ low (getD p 4 0) ∷ low (getD p 5 0) ∷ low (getD p 6 0) ∷ 0 ∷ []
+    ∷ low (rows p)
+    ∷ high (cycle p) ∷ low (cycle p)
+    ∷ high (refLen p) ∷ low (refLen p)
+    ∷ high (refId p) ∷ low (refId p)
+    ∷ low (limit p) ∷ low (columns p) ∷ low (messages p) ∷ 0 ∷ []
 
 abbrev pub columnBytes : List ℕ → List ℕ
 columnBytes r = high (getD r 0 0) ∷ low (getD r 0 0) ∷ high (getD r 1 0) ∷ low (getD r 1 0) ∷ []
@@ -78,9 +89,8 @@ messageBytes r =
 unfoldable pub fileOf : List ℕ → List ℕ
 fileOf p =
     headerBytes p
-    ++ run (columns p) (λ c. columnBytes (piece 2 c (drop 7 p)))
-    ++ run (messages p) (λ j. messageBytes (piece 7 j (drop (7 + 2 * columns p) p)))
+    ++ run (columns p) (λ c. columnBytes (piece 2 c (drop headerWords p)))
+    ++ run (messages p) (λ j. messageBytes (piece 7 j (drop (columnAt (columns p)) p)))
 
--- how many bytes the file of a problem has
 abbrev pub byteCount : List ℕ → ℕ
-byteCount p = 16 + 4 * columns p + 18 * messages p
+byteCount p = bytesFor (columns p) (messages p)

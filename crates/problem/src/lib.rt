@@ -1,26 +1,61 @@
 // The rules of a problem's words, tested: what reader and writer share.
 use basics::has_bit;
+use basics::is_outside;
+use basics::long;
 use basics::wide;
 use rules::Fault;
 use rules::Refusal;
+use rules::words;
 ghost use mathlib.Core.Path.{_≡_};
-ghost use mathlib.Core.Bool.{not};
-ghost use Prim.Native.Nat.{_+_, _*_, _<_, _≤_};
+ghost use Prim.Native.Nat.{_+_, _<_, _≤_};
 ghost use lib.Dec.{eqb};
 ghost use lib.ListN.{length};
 ghost use Rattle.basics.specs.Bits.{bit};
 ghost use Rattle.basics.specs.Sums.{only};
 ghost use Rattle.rules.specs.Refusal.{firstFault};
-ghost use Rattle.rules.specs.Problem.{rows, cycle, columns, messages, identifier, triggers};
-ghost use Rattle.rules.specs.Rules.{outside, isRowCount, headerWrong, columnWrong, repeated, identityWrong, onGrid, timingWrong};
-ghost use Rattle.problem.specs.Parts.{Counted, Reached, Found};
-ghost use Rattle.problem.specs.Wrong.{columnFault, messageFault, nodeFault, wordsFault};
+ghost use Rattle.rules.specs.Problem.{headerWords, start, width, field, nodes, triggers};
+ghost use Rattle.rules.specs.Rules.{isRowCount, headerFault, columnWrong, repeated, identityWrong, onGrid, timingWrong};
+ghost use Rattle.rules.specs.Rules.{columnFault, messageFault, nodeFault, wordsFault};
+ghost use Rattle.problem.specs.File.{bytesFor};
+ghost use Rattle.problem.specs.Parts.{Counted, HasColumn, Reached, HasMessage};
 
-// Whether x is not from lo to hi.
-fn is_outside(x: u32, lo: u32, hi: u32) -> bool
-    ensures { λ r. ⌜ r ≡ outside x lo hi ⌝ }
+// A file's header, a column's record and a message's record, in bytes.
+pub const HEAD_BYTES: usize = 16;
+
+pub const COLUMN_BYTES: usize = 4;
+
+pub const MESSAGE_BYTES: usize = 18;
+
+// No problem file has more bytes.
+pub const MOST_BYTES: usize = HEAD_BYTES
+    + COLUMN_BYTES * words::MOST_COLUMNS
+    + MESSAGE_BYTES * words::MOST_MESSAGES;
+
+// Where the numbers of a file's header stand.
+pub const VERSION_AT: usize = 3;
+
+pub const ROWS_AT: usize = 5;
+
+pub const CYCLE_AT: usize = 6;
+
+pub const REF_LEN_AT: usize = 8;
+
+pub const REF_ID_AT: usize = 10;
+
+pub const LIMIT_AT: usize = 12;
+
+pub const COLUMNS_AT: usize = 13;
+
+pub const MESSAGES_AT: usize = 14;
+
+pub const LAST_AT: usize = 15;
+
+// How many bytes the file of k columns and m messages has.
+pub fn bytes_for(k: usize, m: usize) -> usize
+    requires { ⌜ (k < 256) × (m < 256) ⌝ }
+    ensures { λ r. ⌜ r ≡ bytesFor k m ⌝ }
 {
-    (x < lo) | (hi < x)
+    HEAD_BYTES + COLUMN_BYTES * k + MESSAGE_BYTES * m
 }
 
 // Whether a matrix may have r rows.
@@ -30,32 +65,64 @@ fn is_row_count(r: u32) -> bool
     (r == 1) | (r == 2) | (r == 4) | (r == 8) | (r == 16) | (r == 32) | (r == 64)
 }
 
-// Whether a number of the header is outside its range.
-pub fn header_wrong(words: &[u32]) -> bool
-    requires { ⌜ 7 ≤ length (now words) ⌝ }
-    ensures { λ r. ⌜ r ≡ headerWrong (now (words .entry)) ⌝ }
+// The first number of the header, in file order, that is outside its range.
+pub fn header_fault(words: &[u32]) -> Fault
+    requires { ⌜ headerWords ≤ length (now words) ⌝ }
+    ensures { λ f. ⌜ f ≡ headerFault (now (words .entry)) ⌝ }
 {
-    !is_row_count(words[0])
-        | is_outside(words[1], 1, 65535)
-        | is_outside(words[2], 65, words[1])
-        | (2047 < words[3])
-        | is_outside(words[4], 1, 32)
-        | is_outside(words[5], 1, 32)
-        | (64 < words[6])
+    if !is_row_count(words[words::ROWS]) {
+        return Fault::Bad(Refusal::Header);
+    }
+    if is_outside(words[words::CYCLE], 1, 65535) {
+        return Fault::Bad(Refusal::Header);
+    }
+    if is_outside(words[words::REF_LEN], 65, words[words::CYCLE]) {
+        return Fault::Bad(Refusal::Header);
+    }
+    if 2047 < words[words::REF_ID] {
+        return Fault::Bad(Refusal::Header);
+    }
+    if is_outside(words[words::LIMIT], 1, 32) {
+        return Fault::Bad(Refusal::Header);
+    }
+    if is_outside(words[words::COLUMNS], 1, 32) {
+        return Fault::Bad(Refusal::Header);
+    }
+    if 64 < words[words::MESSAGES] {
+        return Fault::Bad(Refusal::Header);
+    }
+    Fault::Clear
 }
 
 // Where a column ends; two words of any size fit.
 fn end_of(start: u32, width: u32) -> u64
     ensures { λ r. ⌜ r ≡ start + width ⌝ }
 {
-    (start as u64) + (width as u64)
+    long(start) + long(width)
 }
 
-// A word, widened.
-fn long(x: u32) -> u64
-    ensures { λ r. ⌜ r ≡ x ⌝ }
+// When column c starts.
+fn start_in(words: &[u32], c: usize) -> u32
+    requires { ⌜ HasColumn (now words) c ⌝ }
+    ensures { λ r. ⌜ r ≡ start (now (words .entry)) c ⌝ }
 {
-    x as u64
+    words[words::column_at(c)]
+}
+
+// How wide column c is.
+fn width_in(words: &[u32], c: usize) -> u32
+    requires { ⌜ HasColumn (now words) c ⌝ }
+    ensures { λ r. ⌜ r ≡ width (now (words .entry)) c ⌝ }
+{
+    words[words::column_at(c) + words::WIDTH]
+}
+
+// Word i of message j, behind k columns.
+fn field_in(words: &[u32], k: usize, j: usize, i: usize) -> u32
+    requires { ⌜ HasMessage (now words) k j × (i < 7) ⌝ }
+    ensures { λ r. ⌜ r ≡ field (now (words .entry)) j i ⌝ }
+{
+    words[words::message_at(k, j) + i]
 }
 
 // Whether column c breaks its rule, where `from` is the earliest place at which it may start.
@@ -63,13 +130,14 @@ fn column_wrong(words: &[u32], c: usize, from: u64) -> bool
     requires { ⌜ Reached (now words) c from ⌝ }
     ensures { λ r. ⌜ r ≡ columnWrong (now (words .entry)) c ⌝ }
 {
-    let start = words[7 + 2 * c];
-    let width = words[8 + 2 * c];
+    let start = start_in(words, c);
+    let width = width_in(words, c);
     (65535 < start)
         | (65535 < width)
         | (width == 0)
         | (long(start) < from)
-        | ((c + 1 == wide(words[5])) & (long(words[1]) < end_of(start, width)))
+        | ((c + 1 == wide(words[words::COLUMNS]))
+            & (long(words[words::CYCLE]) < end_of(start, width)))
 }
 
 // The first column that breaks its rule.
@@ -77,7 +145,7 @@ fn columns_fault(words: &[u32], k: usize, m: usize) -> Fault
     requires { ⌜ Counted (now words) k m ⌝ }
     ensures { λ r. ⌜ r ≡ firstFault k (columnFault (now (words .entry))) ⌝ }
 {
-    let mut from = end_of(0, words[2]);
+    let mut from = end_of(0, words[words::REF_LEN]);
     let mut c: usize = 0;
     let fault = 'columns: loop {
         if k <= c {
@@ -86,23 +154,21 @@ fn columns_fault(words: &[u32], k: usize, m: usize) -> Fault
         if column_wrong(words, c, from) {
             break 'columns Fault::Bad(Refusal::Column(c as u32));
         }
-        let start = words[7 + 2 * c];
-        let width = words[8 + 2 * c];
-        from = end_of(start, width);
+        from = end_of(start_in(words, c), width_in(words, c));
         c += 1;
     };
     fault
 }
 
-// Whether an earlier message has message j's identifier; the messages' words start at `base`.
-fn is_repeated(words: &[u32], base: usize, j: usize) -> bool
-    requires { ⌜ Found (now words) base j ⌝ }
+// Whether an earlier message has message j's identifier.
+fn is_repeated(words: &[u32], k: usize, j: usize) -> bool
+    requires { ⌜ HasMessage (now words) k j ⌝ }
     ensures { λ r. ⌜ r ≡ repeated (now (words .entry)) j ⌝ }
 {
-    let id = words[base + 7 * j];
+    let id = field_in(words, k, j, words::IDENTIFIER);
     let mut i: usize = 0;
     while i < j {
-        if words[base + 7 * i] == id {
+        if field_in(words, k, i, words::IDENTIFIER) == id {
             return true;
         }
         i += 1;
@@ -121,21 +187,20 @@ fn is_receiver(receivers: u32, node: u32) -> bool
 }
 
 // Whether message j's identifier, node, data bytes or mask is wrong.
-fn identity_wrong(words: &[u32], base: usize, j: usize) -> bool
-    requires { ⌜ Found (now words) base j ⌝ }
+fn identity_wrong(words: &[u32], k: usize, j: usize) -> bool
+    requires { ⌜ HasMessage (now words) k j ⌝ }
     ensures { λ r. ⌜ r ≡ identityWrong (now (words .entry)) j ⌝ }
 {
-    let at = base + 7 * j;
-    let id = words[at];
-    let sender = words[at + 1];
-    let receivers = words[at + 3];
+    let id = field_in(words, k, j, words::IDENTIFIER);
+    let sender = field_in(words, k, j, words::SENDER);
+    let receivers = field_in(words, k, j, words::RECEIVERS);
     (2047 < id)
-        | (id == words[3])
+        | (id == words[words::REF_ID])
         | (15 < sender)
-        | (8 < words[at + 2])
+        | (8 < field_in(words, k, j, words::SIZE))
         | (65535 < receivers)
         | is_receiver(receivers, sender)
-        | is_repeated(words, base, j)
+        | is_repeated(words, k, j)
 }
 
 // Whether the period is the cycle times 2^k, with 2^k at most the rows.
@@ -155,15 +220,14 @@ fn is_on_grid(rows: u32, cycle: u32, period: u32) -> bool
 }
 
 // Whether message j's period, offset or deadline is wrong.
-fn timing_wrong(words: &[u32], base: usize, j: usize) -> bool
-    requires { ⌜ Found (now words) base j ⌝ }
+fn timing_wrong(words: &[u32], k: usize, j: usize) -> bool
+    requires { ⌜ HasMessage (now words) k j ⌝ }
     ensures { λ r. ⌜ r ≡ timingWrong (now (words .entry)) j ⌝ }
 {
-    let at = base + 7 * j;
-    let period = words[at + 4];
-    let offset = words[at + 5];
-    let deadline = words[at + 6];
-    !is_on_grid(words[0], words[1], period)
+    let period = field_in(words, k, j, words::PERIOD);
+    let offset = field_in(words, k, j, words::OFFSET);
+    let deadline = field_in(words, k, j, words::DEADLINE);
+    !is_on_grid(words[words::ROWS], words[words::CYCLE], period)
         | (period <= offset)
         | (deadline == 0)
         | (period < deadline)
@@ -174,16 +238,15 @@ fn messages_fault(words: &[u32], k: usize, m: usize) -> Fault
     requires { ⌜ Counted (now words) k m ⌝ }
     ensures { λ r. ⌜ r ≡ firstFault m (messageFault (now (words .entry))) ⌝ }
 {
-    let base = 7 + 2 * k;
     let mut j: usize = 0;
     let fault = 'messages: loop {
         if m <= j {
             break 'messages Fault::Clear;
         }
-        if identity_wrong(words, base, j) {
+        if identity_wrong(words, k, j) {
             break 'messages Fault::Bad(Refusal::Identity(j as u32));
         }
-        if timing_wrong(words, base, j) {
+        if timing_wrong(words, k, j) {
             break 'messages Fault::Bad(Refusal::Timing(j as u32));
         }
         j += 1;
@@ -206,12 +269,12 @@ pub fn triggers_of(words: &[u32], k: usize, m: usize, node: u32) -> u32
     requires { ⌜ Counted (now words) k m ⌝ }
     ensures { λ r. ⌜ r ≡ triggers (now (words .entry)) node ⌝ }
 {
-    let base = 7 + 2 * k;
     let mut count: u32 = 1;
     let mut j: usize = 0;
     while j < m {
-        let at = base + 7 * j;
-        count = count + once(words[at + 1] == node) + once(is_receiver(words[at + 3], node));
+        let sent = once(field_in(words, k, j, words::SENDER) == node);
+        let received = once(is_receiver(field_in(words, k, j, words::RECEIVERS), node));
+        count = count + sent + received;
         j += 1;
     }
     count
@@ -220,11 +283,11 @@ pub fn triggers_of(words: &[u32], k: usize, m: usize, node: u32) -> u32
 // The lowest node that needs more triggers than it may have.
 fn nodes_fault(words: &[u32], k: usize, m: usize) -> Fault
     requires { ⌜ Counted (now words) k m ⌝ }
-    ensures { λ r. ⌜ r ≡ firstFault 16 (nodeFault (now (words .entry))) ⌝ }
+    ensures { λ r. ⌜ r ≡ firstFault nodes (nodeFault (now (words .entry))) ⌝ }
 {
     let mut n: u32 = 0;
-    while n < 16 {
-        if words[4] < triggers_of(words, k, m, n) {
+    while n < words::NODES {
+        if words[words::LIMIT] < triggers_of(words, k, m, n) {
             return Fault::Bad(Refusal::Triggers(n));
         }
         n += 1;

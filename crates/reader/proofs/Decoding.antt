@@ -1,24 +1,26 @@
 -- What stands in front of a buffer after a file's words were read into it, and what the reader's promises then say.
-use Prim.Native.Nat.{ℕ, _+_, _*_, _<_, _≤_}
-use mathlib.Core.Path.{_≡_, sym, ap, _∙_}
+use Prim.Native.Nat.{ℕ, _<_, _≤_}
+use mathlib.Core.Path.{_≡_, refl, sym, ap, _∙_}
 use mathlib.Core.List.{List, _++_}
 use native.Mathlib.Omega.{arith}
 use borrow.Author.Tests.{lt-ltb, le-ltb}
 use lib.ListN.{length, take, drop}
 use lib.Seq.{take-at, length-take-le}
-use lib.Dec.{ltb}
-use mathlib.Core.Bool.{true, false}
 use Rattle.rules.specs.declared.Fault.{Fault}
 use Rattle.rules.specs.declared.Fault.the-variants.{Clear, Bad}
 use Rattle.rules.specs.declared.Refusal.{Refusal}
 use Rattle.rules.specs.declared.Refusal.the-variants.{Room}
 use Rattle.problem.specs.File.{columnsIn, messagesIn, wordsOf}
 use Rattle.problem.specs.Parts.{Counted}
-use Rattle.problem.specs.Wrong.{wordsFault, headFault, fileFault}
+use Rattle.problem.specs.Wrong.{headFault, fileFault}
+use Rattle.rules.specs.Problem.{wordsFor, mostWords}
+use Rattle.rules.specs.Rules.{wordsFault}
 use Rattle.problem.proofs.File.{length-words}
 use Rattle.problem.proofs.Wrong.{Head, file-rest, file-formed}
 use Rattle.reader.specs.declared.answer.Read.{Read}
 use Rattle.reader.specs.declared.answer.Read.the-variants.{Problem, Refused}
+use Rattle.rules.proofs.Told.{answers-refused, answers-done}
+use Rattle.reader.specs.Answer.{paper, countOf}
 use Rattle.reader.specs.Promise.{Opened, Decoded, Reading}
 use Rattle.reader.specs.Parts.{Sized}
 
@@ -31,33 +33,34 @@ decoded-refused f e q h = record {
   opens = λ n s. absurd (let z : _≡_ {A = ℕ} 0 1 = cc in omega arith);
 }
 
-module _ (f w e : List ℕ) (k m : ℕ) (s : Sized f k m) (put : e ≡ wordsOf f ++ drop (7 + 2 * k + 7 * m) w) where
-  count-is : length (wordsOf f) ≡ 7 + 2 * k + 7 * m
-  count-is = rw (s .columns-are, s .messages-are) (length-words f)
+-- the words of a file with k columns and m messages, which are n, stand in front of the buffer e
+module _ (f w e : List ℕ) (k m n : ℕ) (s : Sized f k m) (put : e ≡ wordsOf f ++ drop (wordsFor k m) w) (n-is : n ≡ wordsFor k m) where
+  count-is : length (wordsOf f) ≡ n
+  count-is = rw (n-is, s .columns-are, s .messages-are) (length-words f)
 
-  front : take (7 + 2 * k + 7 * m) e ≡ wordsOf f
-  front = rw put (take-at (wordsOf f) (drop (7 + 2 * k + 7 * m) w) (7 + 2 * k + 7 * m) count-is)
+  front : take n e ≡ wordsOf f
+  front = rw put (take-at (wordsOf f) (drop (wordsFor k m) w) n count-is)
 
-  pub front-counted : Counted (take (7 + 2 * k + 7 * m) e) k m
+  pub front-counted : Counted (take n e) k m
   unfolding wordsOf
   front-counted = rw front (record {
     columns-are = s .columns-are;
     messages-are = s .messages-are;
-    words = count-is;
+    words = count-is ∙ n-is;
     columns-most = s .columns-most;
     messages-most = s .messages-most;
   })
 
-  module _ (head : headFault f ≡ Clear) (x : Fault) (tested : x ≡ wordsFault (take (7 + 2 * k + 7 * m) e)) where
+  module _ (head : headFault f ≡ Clear) (x : Fault) (tested : x ≡ wordsFault (take n e)) where
     pub decoded-bad : (q : Refusal) → x ≡ Bad q → Decoded f e (Refused q)
     decoded-bad q h = decoded-refused f e q (file-rest f _ x head front tested ∙ h)
 
-    pub decoded-clear : x ≡ Clear → 7 + 2 * k + 7 * m ≤ length e → Decoded f e (Problem (7 + 2 * k + 7 * m))
+    pub decoded-clear : x ≡ Clear → mostWords ≤ length e → Decoded f e (Problem n)
     decoded-clear h l =
         let c : fileFault f ≡ Clear = file-rest f _ x head front tested ∙ h in
         record {
-          refuses = λ q s. absurd (let z : _≡_ {A = ℕ} 0 1 = cc in omega arith);
-          opens = λ n s. let n-is : 7 + 2 * k + 7 * m ≡ n = cc in record { clear = c; within = omega arith; front = rw (← n-is) front; formed = file-formed f c };
+          refuses = λ q r. absurd (let z : _≡_ {A = ℕ} 0 1 = cc in omega arith);
+          opens = λ i r. let i-is : n ≡ i = cc in rw (← i-is) (record { clear = c; within = omega (arith, n-is, s .columns-most, s .messages-most); front = front; formed = rw front (file-formed f c) });
         }
 
 -- the words in front of a buffer that holds a problem are as many as the answer says
@@ -67,25 +70,14 @@ opened-length {f} {b} {n} o = length-take-le n b (o .within)
 -- ---- the caller's own buffer
 module _ (f d b : List ℕ) where
   pub reading-refused : (r : Read) (q : Refusal) → Decoded f b r → r ≡ Refused q → Reading f d d r
-  reading-refused r q h e =
-      let x = h .refuses q e in
-      record { number-is = rw (e, x); place-is = rw (e, x); count-is = rw (e, x); buffer-is = rw x }
+  reading-refused r q h e = answers-refused q (ap paper e) (ap countOf e) (rw (h .refuses q e))
 
   module _ (n : ℕ) (o : Opened f b n) where
     words-are : length (wordsOf f) ≡ n
     words-are = ap length (sym (o .front)) ∙ opened-length o
 
     pub reading-short : length d < n → Reading f d d (Refused Room)
-    reading-short l =
-        let t : ltb (length d) (length (wordsOf f)) ≡ true = lt-ltb (length d) (length (wordsOf f)) (omega (arith, words-are)) in
-        record { number-is = rw (o .clear, t); place-is = rw (o .clear, t); count-is = rw (o .clear, t); buffer-is = rw (o .clear, t) }
+    reading-short l = answers-refused Room refl refl (rw (o .clear, words-are, lt-ltb (length d) n l))
 
     pub reading-done : (e : List ℕ) → n ≤ length d → e ≡ take n b ++ drop (length (take n b)) d → Reading f d e (Problem n)
-    reading-done e l w =
-        let t : ltb (length d) (length (wordsOf f)) ≡ false = le-ltb (length d) (length (wordsOf f)) (omega (arith, words-are)) in
-        record {
-          number-is = rw (o .clear, t);
-          place-is = rw (o .clear, t);
-          count-is = rw (o .clear, t, words-are);
-          buffer-is = rw (o .clear, t, w, o .front);
-        }
+    reading-done e l w = answers-done refl refl (rw (o .clear, words-are, le-ltb (length d) n l)) words-are (w ∙ rw (opened-length o, o .front))

@@ -1,18 +1,15 @@
--- The paper's number, place and count of words for each answer of the reader.
+-- Each answer of the reader in the paper's terms, and how many words it wrote.
 use Prim.Native.Nat.{ℕ}
 use Rattle.rules.specs.declared.Refusal.{Refusal}
 use Rattle.rules.specs.declared.Refusal.the-variants.{Length}
-use Rattle.rules.specs.Refusal.{number, place}
+use Rattle.rules.specs.declared.Paper.{Paper}
+use Rattle.rules.specs.Paper.{done, refused}
 use Rattle.reader.specs.declared.answer.Read.{Read}
 use Rattle.reader.specs.declared.answer.Read.the-variants.{Problem, Refused}
 
-abbrev pub numberOf : Read → ℕ
-numberOf (Problem n) = 0
-numberOf (Refused q) = number q
-
-abbrev pub placeOf : Read → ℕ
-placeOf (Problem n) = 0
-placeOf (Refused q) = place q
+abbrev pub paper : Read → Paper
+paper (Problem n) = done
+paper (Refused q) = refused q
 
 abbrev pub countOf : Read → ℕ
 countOf (Problem n) = n

@@ -2,40 +2,33 @@
 pub mod answer;
 
 pub use answer::Read;
-use problem::header_wrong;
+use basics::FILL;
+use basics::byte;
+use basics::copy_words;
+use basics::wide_byte;
+use problem::bytes_for;
+use problem::header_fault;
 use problem::words_fault;
 use rules::Fault;
 use rules::Refusal;
+use rules::words;
 ghost use mathlib.Core.Path.{_≡_};
 ghost use mathlib.Core.List.{_++_};
 ghost use Prim.Native.Nat.{_+_, _*_, _<_, _≤_};
 ghost use lib.ListN.{length, drop};
-ghost use Rattle.basics.specs.Runs.{run, piece};
-ghost use Rattle.problem.specs.File.{two, four, headerOf, columnOf, messageOf, wordsOf};
+ghost use Rattle.basics.specs.Runs.{Turned};
+ghost use Rattle.rules.specs.Problem.{headerWords, wordsFor, mostWords};
+ghost use Rattle.problem.specs.File.{two, four, headBytes, headerOf, columnOf, messageOf, columnsIn, messagesIn, wordsOf};
 ghost use Rattle.problem.specs.Wrong.{marked, headFault};
 ghost use Rattle.reader.specs.Promise.{Decoded, Reading};
 ghost use Rattle.reader.specs.Parts.{Sized};
-
-// A byte as a word.
-fn wide(x: u8) -> u32
-    ensures { λ r. ⌜ (r ≡ x) × (r < 256) ⌝ }
-{
-    x as u32
-}
-
-// A byte as a number that counts.
-fn count(x: u8) -> usize
-    ensures { λ r. ⌜ (r ≡ x) × (r < 256) ⌝ }
-{
-    x as usize
-}
 
 // The number that two bytes are.
 fn two_bytes(s: &[u8], at: usize) -> u32
     requires { ⌜ at + 2 ≤ length (now s) ⌝ }
     ensures { λ r. ⌜ (r ≡ two (now (s .entry)) at) × (r < 65536) ⌝ }
 {
-    wide(s[at]) * 256 + wide(s[at + 1])
+    byte(s[at]) * 256 + byte(s[at + 1])
 }
 
 // The number that four bytes are.
@@ -47,7 +40,7 @@ fn four_bytes(s: &[u8], at: usize) -> u32
 }
 
 // Whether the file starts with the mark.
-fn is_marked(file: &[u8]) -> bool
+pub fn is_marked(file: &[u8]) -> bool
     requires { ⌜ 3 ≤ length (now file) ⌝ }
     ensures { λ r. ⌜ r ≡ marked (now (file .entry)) ⌝ }
 {
@@ -57,16 +50,16 @@ fn is_marked(file: &[u8]) -> bool
 
 // The header's seven words.
 fn read_header(file: &[u8], words: &mut [u32])
-    requires { ⌜ (16 ≤ length (now file)) × (length (now words) ≡ 7) ⌝ }
+    requires { ⌜ (headBytes ≤ length (now file)) × (length (now words) ≡ headerWords) ⌝ }
     ensures { λ _. ⌜ now (words .exit) ≡ headerOf (now (file .entry)) ⌝ }
 {
-    words[0] = wide(file[5]);
-    words[1] = two_bytes(file, 6);
-    words[2] = two_bytes(file, 8);
-    words[3] = two_bytes(file, 10);
-    words[4] = wide(file[12]);
-    words[5] = wide(file[13]);
-    words[6] = wide(file[14]);
+    words[words::ROWS] = byte(file[problem::ROWS_AT]);
+    words[words::CYCLE] = two_bytes(file, problem::CYCLE_AT);
+    words[words::REF_LEN] = two_bytes(file, problem::REF_LEN_AT);
+    words[words::REF_ID] = two_bytes(file, problem::REF_ID_AT);
+    words[words::LIMIT] = byte(file[problem::LIMIT_AT]);
+    words[words::COLUMNS] = byte(file[problem::COLUMNS_AT]);
+    words[words::MESSAGES] = byte(file[problem::MESSAGES_AT]);
 }
 
 // A column's record of 4 bytes, as two words.
@@ -74,14 +67,14 @@ fn read_column(bytes: &[u8], words: &mut [u32])
     requires { ⌜ (length (now bytes) ≡ 4) × (length (now words) ≡ 2) ⌝ }
     ensures { λ _. ⌜ now (words .exit) ≡ columnOf (now (bytes .entry)) ⌝ }
 {
-    words[0] = two_bytes(bytes, 0);
-    words[1] = two_bytes(bytes, 2);
+    words[words::START] = two_bytes(bytes, 0);
+    words[words::WIDTH] = two_bytes(bytes, 2);
 }
 
 // The column records, each handed on as a part.
 fn read_columns(part: &[u8], k: usize, words: &mut [u32])
     requires { ⌜ (4 * k ≤ length (now part)) × (2 * k ≤ length (now words)) × (k ≤ 32) ⌝ }
-    ensures { λ _. ⌜ now (words .exit) ≡ run k (λ c. columnOf (piece 4 c (now (part .entry)))) ++ drop (2 * k) (now (words .entry)) ⌝ }
+    ensures { λ _. ⌜ Turned columnOf 4 2 (now (part .entry)) (now (words .entry)) k (now (words .exit)) ⌝ }
 {
     let mut c: usize = 0;
     while c < k {
@@ -97,19 +90,19 @@ fn read_message(bytes: &[u8], words: &mut [u32])
     requires { ⌜ (length (now bytes) ≡ 18) × (length (now words) ≡ 7) ⌝ }
     ensures { λ _. ⌜ now (words .exit) ≡ messageOf (now (bytes .entry)) ⌝ }
 {
-    words[0] = two_bytes(bytes, 0);
-    words[1] = wide(bytes[2]);
-    words[2] = wide(bytes[3]);
-    words[3] = two_bytes(bytes, 4);
-    words[4] = four_bytes(bytes, 6);
-    words[5] = four_bytes(bytes, 10);
-    words[6] = four_bytes(bytes, 14);
+    words[words::IDENTIFIER] = two_bytes(bytes, 0);
+    words[words::SENDER] = byte(bytes[2]);
+    words[words::SIZE] = byte(bytes[3]);
+    words[words::RECEIVERS] = two_bytes(bytes, 4);
+    words[words::PERIOD] = four_bytes(bytes, 6);
+    words[words::OFFSET] = four_bytes(bytes, 10);
+    words[words::DEADLINE] = four_bytes(bytes, 14);
 }
 
 // The message records, each handed on as a part.
 fn read_messages(part: &[u8], m: usize, words: &mut [u32])
     requires { ⌜ (18 * m ≤ length (now part)) × (7 * m ≤ length (now words)) × (m ≤ 64) ⌝ }
-    ensures { λ _. ⌜ now (words .exit) ≡ run m (λ j. messageOf (piece 18 j (now (part .entry)))) ++ drop (7 * m) (now (words .entry)) ⌝ }
+    ensures { λ _. ⌜ Turned messageOf 18 7 (now (part .entry)) (now (words .entry)) m (now (words .exit)) ⌝ }
 {
     let mut j: usize = 0;
     while j < m {
@@ -120,25 +113,45 @@ fn read_messages(part: &[u8], m: usize, words: &mut [u32])
     }
 }
 
+// How many columns the file says that it has.
+fn columns_in(file: &[u8]) -> usize
+    requires { ⌜ headBytes ≤ length (now file) ⌝ }
+    ensures { λ r. ⌜ (r ≡ columnsIn (now (file .entry))) × (r < 256) ⌝ }
+{
+    wide_byte(file[problem::COLUMNS_AT])
+}
+
+// How many messages the file says that it has.
+fn messages_in(file: &[u8]) -> usize
+    requires { ⌜ headBytes ≤ length (now file) ⌝ }
+    ensures { λ r. ⌜ (r ≡ messagesIn (now (file .entry))) × (r < 256) ⌝ }
+{
+    wide_byte(file[problem::MESSAGES_AT])
+}
+
 // What is wrong with the header or the length.
 fn head_fault(file: &[u8]) -> Fault
     ensures { λ r. ⌜ r ≡ headFault (now (file .entry)) ⌝ }
 {
-    if file.len() < 16 {
+    if file.len() < problem::HEAD_BYTES {
         return Fault::Bad(Refusal::Length);
     }
     if !is_marked(file) {
         return Fault::Bad(Refusal::Mark);
     }
-    if two_bytes(file, 3) != 1 {
+    if two_bytes(file, problem::VERSION_AT) != 1 {
         return Fault::Bad(Refusal::Version);
     }
-    let mut head = [0u32; 7];
+    let mut head = [0u32; words::HEADER_WORDS];
     read_header(file, &mut head);
-    if header_wrong(&head) | (file[15] != 0) {
+    let of_header = header_fault(&head);
+    let Fault::Clear = of_header else {
+        return of_header;
+    };
+    if file[problem::LAST_AT] != 0 {
         return Fault::Bad(Refusal::Header);
     }
-    if file.len() != 16 + 4 * count(file[13]) + 18 * count(file[14]) {
+    if file.len() != bytes_for(columns_in(file), messages_in(file)) {
         return Fault::Bad(Refusal::Length);
     }
     Fault::Clear
@@ -146,28 +159,36 @@ fn head_fault(file: &[u8]) -> Fault
 
 // The words of a file whose header and length are right, in front of what the buffer holds.
 fn read_words(file: &[u8], k: usize, m: usize, words: &mut [u32])
-    requires { ⌜ Sized (now file) k m × (519 ≤ length (now words)) ⌝ }
-    ensures { λ _. ⌜ now (words .exit) ≡ wordsOf (now (file .entry)) ++ drop (7 + 2 * k + 7 * m) (now (words .entry)) ⌝ }
+    requires { ⌜ Sized (now file) k m × (mostWords ≤ length (now words)) ⌝ }
+    ensures { λ _. ⌜ now (words .exit) ≡ wordsOf (now (file .entry)) ++ drop (wordsFor k m) (now (words .entry)) ⌝ }
 {
-    read_header(file, &mut words[0..7]);
-    read_columns(&file[16..], k, &mut words[7..]);
-    let to = 7 + 2 * k;
-    read_messages(&file[16 + 4 * k..], m, &mut words[to..]);
+    read_header(file, &mut words[..words::HEADER_WORDS]);
+    read_columns(
+        &file[problem::HEAD_BYTES..],
+        k,
+        &mut words[words::HEADER_WORDS..],
+    );
+    let to = words::column_at(k);
+    read_messages(
+        &file[problem::HEAD_BYTES + problem::COLUMN_BYTES * k..],
+        m,
+        &mut words[to..],
+    );
 }
 
 // A file's words in the front of a buffer that is large enough for any problem, or the refusal.
 pub fn decode(file: &[u8], words: &mut [u32]) -> Read
-    requires { ⌜ 519 ≤ length (now words) ⌝ }
+    requires { ⌜ mostWords ≤ length (now words) ⌝ }
     ensures { λ r. ⌜ Decoded (now (file .entry)) (now (words .exit)) r ⌝ }
 {
     let of_head = head_fault(file);
     if let Fault::Bad(q) = of_head {
         return Read::Refused(q);
     }
-    let k = count(file[13]);
-    let m = count(file[14]);
+    let k = columns_in(file);
+    let m = messages_in(file);
     read_words(file, k, m, words);
-    let n = 7 + 2 * k + 7 * m;
+    let n = words::message_at(k, m);
     let of_words = words_fault(&words[..n], k, m);
     if let Fault::Bad(q) = of_words {
         return Read::Refused(q);
@@ -175,24 +196,11 @@ pub fn decode(file: &[u8], words: &mut [u32]) -> Read
     Read::Problem(n)
 }
 
-// Words copied to the front of a buffer.
-pub fn copy_words(from: &[u32], to: &mut [u32])
-    requires { ⌜ length (now from) ≤ length (now to) ⌝ }
-    ensures { λ _. ⌜ now (to .exit) ≡ now (from .entry) ++ drop (length (now (from .entry))) (now (to .entry)) ⌝ }
-{
-    let mut i: usize = 0;
-    while i < from.len() {
-        to[i] = from[i];
-        i += 1;
-    }
-}
-
 // Reads a problem file into the caller's buffer, which keeps its words beyond the problem's.
 pub fn read(file: &[u8], words: &mut [u32]) -> Read
     ensures { λ r. ⌜ Reading (now (file .entry)) (now (words .entry)) (now (words .exit)) r ⌝ }
 {
-    // 1 and not 0: filled in place, without a call of memset
-    let mut buffer = [1u32; 519];
+    let mut buffer = [FILL; words::MOST_WORDS];
     let got = decode(file, &mut buffer);
     let Read::Problem(n) = got else {
         return got;

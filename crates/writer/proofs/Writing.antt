@@ -1,11 +1,9 @@
 -- A buffer that is filled by calls that set a few bytes each, and what the writer's promise says of each answer.
 use Prim.Native.Nat.{ℕ, _+_, _<_, _≤_}
 use mathlib.Core.Path.{_≡_, refl, sym, ap, _∙_}
-use mathlib.Core.Bool.{true, false}
 use mathlib.Core.List.{List, [], _∷_, _++_}
 use native.Mathlib.Omega.{arith}
 use borrow.Author.Tests.{lt-ltb, le-ltb}
-use lib.Dec.{ltb}
 use lib.ListN.{length, drop, length-append}
 use lib.Seq.{sets}
 use Rattle.basics.proofs.Runs.{sets-next, filled}
@@ -13,9 +11,10 @@ use Rattle.rules.specs.declared.Fault.the-variants.{Clear, Bad}
 use Rattle.rules.specs.declared.Refusal.{Refusal}
 use Rattle.rules.specs.declared.Refusal.the-variants.{Room}
 use Rattle.problem.specs.File.{low, high, third, top, fileOf, byteCount}
-use Rattle.problem.specs.Wrong.{problemFault}
+use Rattle.rules.specs.Rules.{problemFault}
 use Rattle.problem.proofs.File.{length-file}
 use Rattle.writer.specs.declared.Written.the-variants.{File, Refused}
+use Rattle.rules.proofs.Told.{answers-refused, answers-done}
 use Rattle.writer.specs.Promise.{Writing}
 
 -- a number as one byte, as two and as four
@@ -45,23 +44,14 @@ all-set {d} {p} {l} {n} b h = filled d p l n (b .is) h
 
 module _ (p d : List ℕ) where
   pub writing-refused : (q : Refusal) → problemFault p ≡ Bad q → Writing p d d (Refused q)
-  writing-refused q h = record { number-is = rw h; place-is = rw h; count-is = rw h; buffer-is = rw h }
+  writing-refused q h = answers-refused q refl refl (rw h)
 
   module _ (clear : problemFault p ≡ Clear) (n : ℕ) (n-is : n ≡ byteCount p) where
     bytes-are : length (fileOf p) ≡ n
     bytes-are = length-file p ∙ sym n-is
 
     pub writing-short : length d < n → Writing p d d (Refused Room)
-    writing-short l =
-        let t : ltb (length d) (length (fileOf p)) ≡ true = lt-ltb (length d) (length (fileOf p)) (omega (arith, bytes-are)) in
-        record { number-is = rw (clear, t); place-is = rw (clear, t); count-is = rw (clear, t); buffer-is = rw (clear, t) }
+    writing-short l = answers-refused Room refl refl (rw (clear, bytes-are, lt-ltb (length d) n l))
 
     pub writing-done : (e : List ℕ) → n ≤ length d → e ≡ fileOf p ++ drop n d → Writing p d e (File n)
-    writing-done e l w =
-        let t : ltb (length d) (length (fileOf p)) ≡ false = le-ltb (length d) (length (fileOf p)) (omega (arith, bytes-are)) in
-        record {
-          number-is = rw (clear, t);
-          place-is = rw (clear, t);
-          count-is = rw (clear, t, bytes-are);
-          buffer-is = rw (clear, t, bytes-are) w;
-        }
+    writing-done e l w = answers-done refl refl (rw (clear, bytes-are, le-ltb (length d) n l)) bytes-are w

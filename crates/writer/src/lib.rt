@@ -1,18 +1,21 @@
 // From a problem's words to its file.
 use basics::wide;
-use problem::header_wrong;
+use problem::bytes_for;
+use problem::header_fault;
 use problem::words_fault;
 use rules::Fault;
 use rules::Refusal;
+use rules::words;
 ghost use mathlib.Core.Path.{_≡_};
 ghost use mathlib.Core.List.{[], _∷_, _++_};
 ghost use Prim.Native.Nat.{_+_, _*_, _%_, _<_, _≤_};
 ghost use lib.ListN.{length, drop};
 ghost use lib.Seq.{sets};
-ghost use Rattle.basics.specs.Runs.{run, piece};
-ghost use Rattle.problem.specs.File.{low, high, third, top, headerBytes, columnBytes, messageBytes, fileOf};
+ghost use Rattle.basics.specs.Runs.{Turned};
+ghost use Rattle.rules.specs.Problem.{headerWords};
+ghost use Rattle.rules.specs.Rules.{problemFault};
+ghost use Rattle.problem.specs.File.{low, high, third, top, headBytes, bytesFor, headerBytes, columnBytes, messageBytes, fileOf};
 ghost use Rattle.problem.specs.Parts.{Counted};
-ghost use Rattle.problem.specs.Wrong.{problemFault};
 ghost use Rattle.writer.specs.Promise.{Writing};
 
 // How many bytes the file has, or why there is none.
@@ -69,26 +72,31 @@ fn put_mark(out: &mut [u8])
 
 // The header's last four bytes.
 fn put_limits(out: &mut [u8], limit: u32, k: u32, m: u32)
-    requires { ⌜ 16 ≤ length (now out) ⌝ }
+    requires { ⌜ headBytes ≤ length (now out) ⌝ }
     ensures { λ _. ⌜ now (out .exit) ≡ sets (now (out .entry)) 12 (low limit ∷ low k ∷ low m ∷ 0 ∷ []) ⌝ }
 {
-    out[12] = byte(limit);
-    out[13] = byte(k);
-    out[14] = byte(m);
-    out[15] = 0;
+    out[problem::LIMIT_AT] = byte(limit);
+    out[problem::COLUMNS_AT] = byte(k);
+    out[problem::MESSAGES_AT] = byte(m);
+    out[problem::LAST_AT] = 0;
 }
 
 // The header's 16 bytes.
 fn write_header(words: &[u32], out: &mut [u8])
-    requires { ⌜ (7 ≤ length (now words)) × (length (now out) ≡ 16) ⌝ }
+    requires { ⌜ (headerWords ≤ length (now words)) × (length (now out) ≡ headBytes) ⌝ }
     ensures { λ _. ⌜ now (out .exit) ≡ headerBytes (now (words .entry)) ⌝ }
 {
     put_mark(out);
-    put_one(out, 5, words[0]);
-    put_two(out, 6, words[1]);
-    put_two(out, 8, words[2]);
-    put_two(out, 10, words[3]);
-    put_limits(out, words[4], words[5], words[6]);
+    put_one(out, problem::ROWS_AT, words[words::ROWS]);
+    put_two(out, problem::CYCLE_AT, words[words::CYCLE]);
+    put_two(out, problem::REF_LEN_AT, words[words::REF_LEN]);
+    put_two(out, problem::REF_ID_AT, words[words::REF_ID]);
+    put_limits(
+        out,
+        words[words::LIMIT],
+        words[words::COLUMNS],
+        words[words::MESSAGES],
+    );
 }
 
 // A column's two words, as its record.
@@ -96,14 +104,14 @@ fn write_column(words: &[u32], out: &mut [u8])
     requires { ⌜ (length (now words) ≡ 2) × (length (now out) ≡ 4) ⌝ }
     ensures { λ _. ⌜ now (out .exit) ≡ columnBytes (now (words .entry)) ⌝ }
 {
-    put_two(out, 0, words[0]);
-    put_two(out, 2, words[1]);
+    put_two(out, 0, words[words::START]);
+    put_two(out, 2, words[words::WIDTH]);
 }
 
 // The columns' words, each pair handed on as a part.
 fn write_columns(part: &[u32], k: usize, out: &mut [u8])
     requires { ⌜ (2 * k ≤ length (now part)) × (4 * k ≤ length (now out)) × (k ≤ 32) ⌝ }
-    ensures { λ _. ⌜ now (out .exit) ≡ run k (λ c. columnBytes (piece 2 c (now (part .entry)))) ++ drop (4 * k) (now (out .entry)) ⌝ }
+    ensures { λ _. ⌜ Turned columnBytes 2 4 (now (part .entry)) (now (out .entry)) k (now (out .exit)) ⌝ }
 {
     let mut c: usize = 0;
     while c < k {
@@ -119,19 +127,19 @@ fn write_message(words: &[u32], out: &mut [u8])
     requires { ⌜ (length (now words) ≡ 7) × (length (now out) ≡ 18) ⌝ }
     ensures { λ _. ⌜ now (out .exit) ≡ messageBytes (now (words .entry)) ⌝ }
 {
-    put_two(out, 0, words[0]);
-    put_one(out, 2, words[1]);
-    put_one(out, 3, words[2]);
-    put_two(out, 4, words[3]);
-    put_four(out, 6, words[4]);
-    put_four(out, 10, words[5]);
-    put_four(out, 14, words[6]);
+    put_two(out, 0, words[words::IDENTIFIER]);
+    put_one(out, 2, words[words::SENDER]);
+    put_one(out, 3, words[words::SIZE]);
+    put_two(out, 4, words[words::RECEIVERS]);
+    put_four(out, 6, words[words::PERIOD]);
+    put_four(out, 10, words[words::OFFSET]);
+    put_four(out, 14, words[words::DEADLINE]);
 }
 
 // The messages' words, each seven handed on as a part.
 fn write_messages(part: &[u32], m: usize, out: &mut [u8])
     requires { ⌜ (7 * m ≤ length (now part)) × (18 * m ≤ length (now out)) × (m ≤ 64) ⌝ }
-    ensures { λ _. ⌜ now (out .exit) ≡ run m (λ j. messageBytes (piece 7 j (now (part .entry)))) ++ drop (18 * m) (now (out .entry)) ⌝ }
+    ensures { λ _. ⌜ Turned messageBytes 7 18 (now (part .entry)) (now (out .entry)) m (now (out .exit)) ⌝ }
 {
     let mut j: usize = 0;
     while j < m {
@@ -144,13 +152,17 @@ fn write_messages(part: &[u32], m: usize, out: &mut [u8])
 
 // The file of words without a fault, in front of what the buffer holds.
 fn write_file(words: &[u32], k: usize, m: usize, out: &mut [u8])
-    requires { ⌜ Counted (now words) k m × (16 + 4 * k + 18 * m ≤ length (now out)) ⌝ }
-    ensures { λ _. ⌜ now (out .exit) ≡ fileOf (now (words .entry)) ++ drop (16 + 4 * k + 18 * m) (now (out .entry)) ⌝ }
+    requires { ⌜ Counted (now words) k m × (bytesFor k m ≤ length (now out)) ⌝ }
+    ensures { λ _. ⌜ now (out .exit) ≡ fileOf (now (words .entry)) ++ drop (bytesFor k m) (now (out .entry)) ⌝ }
 {
-    write_header(words, &mut out[0..16]);
-    write_columns(&words[7..], k, &mut out[16..]);
-    let from = 7 + 2 * k;
-    let to = 16 + 4 * k;
+    write_header(words, &mut out[..problem::HEAD_BYTES]);
+    write_columns(
+        &words[words::HEADER_WORDS..],
+        k,
+        &mut out[problem::HEAD_BYTES..],
+    );
+    let from = words::column_at(k);
+    let to = bytes_for(k, 0);
     write_messages(&words[from..], m, &mut out[to..]);
 }
 
@@ -158,15 +170,16 @@ fn write_file(words: &[u32], k: usize, m: usize, out: &mut [u8])
 fn problem_fault(words: &[u32]) -> Fault
     ensures { λ r. ⌜ r ≡ problemFault (now (words .entry)) ⌝ }
 {
-    if words.len() < 7 {
+    if words.len() < words::HEADER_WORDS {
         return Fault::Bad(Refusal::Length);
     }
-    if header_wrong(words) {
-        return Fault::Bad(Refusal::Header);
-    }
-    let k = wide(words[5]);
-    let m = wide(words[6]);
-    if words.len() != 7 + 2 * k + 7 * m {
+    let of_header = header_fault(words);
+    let Fault::Clear = of_header else {
+        return of_header;
+    };
+    let k = wide(words[words::COLUMNS]);
+    let m = wide(words[words::MESSAGES]);
+    if words.len() != words::message_at(k, m) {
         return Fault::Bad(Refusal::Length);
     }
     words_fault(words, k, m)
@@ -180,9 +193,9 @@ pub fn write(words: &[u32], file: &mut [u8]) -> Written
     if let Fault::Bad(q) = fault {
         return Written::Refused(q);
     }
-    let k = wide(words[5]);
-    let m = wide(words[6]);
-    let n = 16 + 4 * k + 18 * m;
+    let k = wide(words[words::COLUMNS]);
+    let m = wide(words[words::MESSAGES]);
+    let n = bytes_for(k, m);
     if file.len() < n {
         return Written::Refused(Refusal::Room);
     }

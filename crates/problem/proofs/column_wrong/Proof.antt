@@ -1,3 +1,4 @@
+-- The tests of the rule, each on the column's own words.
 use native.Mathlib.Numerals.{add-one}
 use Rattle.rules.specs.Rules.{columnWrong}
 use borrow.Author.Needs.{needs}
@@ -8,21 +9,16 @@ returns : tie.Need-returns
 unfolding columnWrong
 returns c =
     let at-wide = c .before .before .before in
-    let start = at-wide .before .before .before .before .before .before in
-    rw (c .end-of .ensures, c .before .long2 .ensures, at-wide .wide .ensures .0, at-wide .before .before .long .ensures, start .pre .from-is, add-one (start .args .c))
+    let at-width = at-wide .before .before .before in
+    let start = at-width .before .before .before in
+    rw (c .end-of .ensures, c .before .long2 .ensures .0, at-wide .wide .ensures .0, at-wide .before .before .long .ensures .0, at-width .before .start-in .ensures, at-width .width-in .ensures, start .pre .from-is, add-one (start .args .c))
 
 pub column-wrong-spec : {M : Type 1} → statement M
 column-wrong-spec =
     tie.close
     (tie.spec
-    (λ c. search needs)
-    (λ c. search needs)
-    (λ c. search needs)
-    (λ c. search needs)
-    (λ c. search needs)
-    (λ c. search needs)
-    (λ c. search needs)
-    (λ c. search needs)
+    (λ c κs. search needs)
+    (λ c κs. search needs)
     (λ c κs. search needs)
     (λ c. search needs)
     (λ c. search needs)

@@ -1,6 +1,4 @@
-use Prim.Native.Nat.{_+_, _*_}
-use native.Mathlib.Nat.{add-zero}
-use Rattle.rules.specs.Problem.{columns}
+-- The tests of the rule, each on the message's own words.
 use Rattle.rules.specs.Rules.{identityWrong}
 use borrow.Author.Needs.{needs}
 use Rattle.problem.proofs.identity_wrong.Statement.{statement}
@@ -9,27 +7,26 @@ use Rattle.problem.proofs.identity_wrong.Tie as tie
 returns : tie.Need-returns
 unfolding identityWrong
 returns c =
-    let start = c .before .before .before .before .before .before .before .before in
-    rw (c .is-repeated .ensures, c .before .is-receiver .ensures, start .pre .base-is, add-zero (7 + 2 * columns (start .args .words .now) + 7 * start .args .j))
+    let at-size = c .before .before in
+    let at-receivers = at-size .before .before in
+    rw (
+      c .is-repeated .ensures,
+      c .before .is-receiver .ensures,
+      at-size .field-in4 .ensures,
+      at-receivers .field-in3 .ensures,
+      at-receivers .before .field-in2 .ensures,
+      at-receivers .before .before .field-in .ensures,
+    )
 
 pub identity-wrong-spec : {M : Type 1} → statement M
 identity-wrong-spec =
     tie.close
     (tie.spec
+    (λ c κs. search needs)
+    (λ c κs. search needs)
+    (λ c κs. search needs)
     (λ c. search needs)
-    (λ c. search needs)
-    (λ c. search needs)
-    (λ c. search needs)
-    (λ c. search needs)
-    (λ c. search needs)
-    (λ c. search needs)
-    (λ c. search needs)
-    (λ c. search needs)
-    (λ c. search needs)
-    (λ c. search needs)
-    (λ c. search needs)
-    (λ c. search needs)
-    (λ c. search needs)
+    (λ c κs. search needs)
     (λ c κs. search needs)
     (λ c κs. search needs)
     returns)

@@ -1,3 +1,4 @@
+-- The file is decoded into a buffer of the call's own; its refusal is handed on, and else its words are copied, if there is room.
 use mathlib.Core.Path.{sym}
 use Rattle.reader.proofs.Decoding.{reading-refused, reading-short, opened-length, reading-done}
 use borrow.Author.Needs.{needs}

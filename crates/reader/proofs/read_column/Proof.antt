@@ -1,3 +1,4 @@
+-- Two stores fill the two words.
 use mathlib.Core.Path.{_∙_}
 use mathlib.Core.List.{[], _∷_}
 use Rattle.basics.proofs.Runs.{sets-all}

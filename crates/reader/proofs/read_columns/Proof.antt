@@ -1,47 +1,36 @@
 -- Invariant: the columns before c are read, in front of what the buffer held. Each step puts one more piece behind them.
-use Prim.Native.Nat.{_+_, _*_, _-_, _≤_}
-use mathlib.Core.Path.{_≡_, refl, ap, _∙_}
-use mathlib.Core.List.{_++_}
-use borrow.Rule.Slice.PartMut.{same-len-mid}
+use Prim.Native.Nat.{_-_, _≤_}
+use mathlib.Core.Path.{refl}
 use native.Mathlib.Omega.{arith}
-use lib.ListN.{length, drop}
-use Rattle.basics.specs.Runs.{run, piece}
-use Rattle.basics.proofs.Runs.{run-more, part-piece, length-part}
+use Rattle.basics.specs.Runs.{Turned}
+use Rattle.basics.proofs.Runs.{turned-none, turned-more, turned-parts, turned-all}
 use Rattle.problem.specs.File.{columnOf}
 use borrow.Author.Needs.{needs}
 use Rattle.reader.proofs.read_columns.Statement.{statement}
 use Rattle.reader.proofs.read_columns.Tie as tie
 
 abbrev Inv-loop : tie.InvT-loop
-Inv-loop part k words₀ c₀ words c = (c ≤ k) × (length words ≡ length words₀) × (words ≡ run c (λ i. columnOf (piece 4 i part)) ++ drop (2 * c) words₀)
+Inv-loop part k words₀ c₀ words c = (c ≤ k) × Turned columnOf 4 2 part words₀ c words
 
 abbrev μ-loop : tie.MeasureT-loop
 μ-loop part k words₀ c₀ words c = k - c
 
 loop-holds : tie.Need-loop-holds Inv-loop μ-loop
-unfolding run
-loop-holds c = (search needs, refl, refl)
+loop-holds c = (search needs, turned-none)
 
 read-column-requires : tie.Need-read-column-requires Inv-loop μ-loop
 read-column-requires c κs =
     let at-loop = c .before .before .before in
-    let start = at-loop .before .before .before in
-    let at = at-loop .loop in
-    (length-part 4 (at .c) (start .args .k) (start .args .part .now) (omega arith) (omega arith), length-part 2 (at .c) (start .args .k) (at .words) (omega arith) (omega arith))
+    turned-parts (at-loop .loop .c) (at-loop .before .before .before .args .k) (at-loop .loop .inv .1) (omega arith) (omega arith) (omega arith)
 
 loop-again : tie.Need-loop-again Inv-loop μ-loop
 loop-again c =
     let call = c .before .before .read-column in
-    let at = c .before .before .before .before .before .before .loop in (
-      search needs,
-      same-len-mid (2 * at .c) (2 * at .c + 2 - 2 * at .c) (at .words) (call .last .1 .0) (call .kept .1 .0) ∙ at .inv .1,
-      run-more _ 2 (λ i. refl) (at .c) _ _ _ (at .inv .2) (call .ensures ∙ ap columnOf (part-piece 4 (at .c) _)),
-    )
+    let at = c .before .before .before .before .before .before .loop in
+    (search needs, turned-more (λ r. refl) (at .c) (at .inv .1) (call .ensures) (call .kept .1 .0))
 
 returns : tie.Need-returns Inv-loop μ-loop
-returns c =
-    let e : c .before .loop .c ≡ c .before .before .before .before .args .k = omega arith in
-    rw (← e) (c .before .loop .inv .2)
+returns c = turned-all (c .before .loop .inv .1) (omega arith)
 
 pub read-columns-spec : {M : Type 1} → statement M
 read-columns-spec =

@@ -1,3 +1,4 @@
+-- Seven stores fill the seven words.
 use mathlib.Core.Path.{_∙_}
 use mathlib.Core.List.{[], _∷_}
 use native.Mathlib.Omega.{arith}

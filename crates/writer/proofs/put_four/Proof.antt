@@ -1,3 +1,4 @@
+-- Four bytes are two and two.
 use mathlib.Core.Path.{_∙_}
 use native.Mathlib.Numerals.{add-two}
 use borrow.Author.Needs.{needs}

@@ -1,3 +1,4 @@
+-- One store.
 use borrow.Author.Needs.{needs}
 use Rattle.writer.proofs.put_one.Statement.{statement}
 use Rattle.writer.proofs.put_one.Tie as tie

@@ -1,3 +1,4 @@
+-- Two stores, one behind the other.
 use native.Mathlib.Omega.{arith}
 use lib.ListN.{length-set}
 use native.Mathlib.Numerals.{add-one}

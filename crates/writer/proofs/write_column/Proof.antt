@@ -1,3 +1,4 @@
+-- Each call sets the bytes behind those before; together they fill the record.
 use mathlib.Core.Path.{_≡_}
 use Prim.Native.Nat.{ℕ}
 use native.Mathlib.Omega.{arith}
