@@ -2,64 +2,45 @@
 use Prim.Native.Nat.{ℕ}
 use mathlib.Core.Path.{_≡_, refl, sym, ap, _∙_}
 use mathlib.Core.List.{List}
-use lib.ListN.{take}
+use native.Mathlib.Omega.{arith}
 use Rattle.rules.specs.declared.Refusal.{Refusal}
-use Rattle.rules.specs.declared.Fault.{Fault}
 use Rattle.rules.specs.declared.Fault.the-variants.{Clear, Bad}
-use Rattle.rules.specs.Tests.{proposalFault}
 use Rattle.rules.proofs.Exact.{exact}
-use Rattle.rules.proofs.Faults.{refusal-one, never-done, bad-not-clear}
+use Rattle.rules.proofs.Faults.{bad-not-clear, clear-both}
+use Rattle.rules.proofs.Told.{numbered, Told, answered, refusing, told-one}
 use Rattle.problem.specs.File.{wordsOf}
-use Rattle.problem.specs.Wrong.{fileFault}
-use Rattle.reader.specs.declared.answer.Read.{Read}
-use Rattle.reader.specs.declared.answer.Read.the-variants.{Refused as NotRead}
-use Rattle.reader.specs.Answer.{refusal}
-use Rattle.reader.specs.Promise.{Decoded, Opened}
+use Rattle.problem.proofs.Wrong.{file-formed}
+use Rattle.proposal.specs.Accepted.{checkFault}
 use Rattle.checker.specs.declared.answer.Checked.{Checked}
 use Rattle.checker.specs.declared.answer.Checked.the-variants.{Accepted, Refused}
-use Rattle.checker.specs.Answer.{numberOf, placeOf}
-use Rattle.checker.specs.Promise.{Checking}
+use Rattle.checker.specs.Answer.{paper}
+use Rattle.checker.specs.Promise.{Reads, Checking}
 
--- a file that is refused
-pub checking-file : (w : List ℕ) {f e : List ℕ} {x : Read} {q r : Refusal} → Decoded f e x → x ≡ NotRead q → r ≡ refusal x → Checking f w (Refused r)
-checking-file w {f} {r = r} d h er =
-    let wrong : fileFault f ≡ Bad r = d .refuses _ h ∙ ap Bad (sym (er ∙ ap refusal h)) in
-    record {
-      number-is = rw wrong;
-      place-is = rw wrong;
-      exactly = λ p o. bad-not-clear (o .clear) wrong;
-    }
-
--- a file that is read, by what is wrong with the proposal
-module _ (w : List ℕ) {f e : List ℕ} {n : ℕ} {y : Fault} (o : Opened f e n) (ey : y ≡ proposalFault (take n e) w) where
-  found : proposalFault (wordsOf f) w ≡ y
-  found = sym (rw (o .front) at ey)
-
-  pub checking-clear : y ≡ Clear → Checking f w Accepted
+module _ (f w : List ℕ) where
+  pub checking-clear : checkFault f w ≡ Clear → Checking f w Accepted
   checking-clear h =
-      let fine : proposalFault (wordsOf f) w ≡ Clear = found ∙ h in
+      let parts = clear-both _ _ h in
       record {
-        number-is = rw (o .clear, fine);
-        place-is = rw (o .clear, fine);
-        exactly = λ p r. rw (← r .words) (λ _. exact (wordsOf f) w (o .formed) .0 fine, λ _. refl);
+        paper-is = rw h;
+        exactly = λ p r. rw (← r .words) (λ _. exact (wordsOf f) w (file-formed f (parts .0)) .0 (parts .1), λ _. refl);
       }
 
-  pub checking-bad : {q : Refusal} → y ≡ Bad q → Checking f w (Refused q)
-  checking-bad {q} h =
-      let wrong : proposalFault (wordsOf f) w ≡ Bad q = found ∙ h in
+  pub checking-bad : (q : Refusal) → checkFault f w ≡ Bad q → Checking f w (Refused q)
+  checking-bad q h =
       record {
-        number-is = rw (o .clear, wrong);
-        place-is = rw (o .clear, wrong);
-        exactly = λ p r. rw (← r .words) (λ z. absurd (never-done q z), λ a. bad-not-clear (exact (wordsOf f) w (o .formed) .1 a) wrong);
+        paper-is = rw h;
+        exactly = λ p r.
+            rw (← r .words) (
+              λ z. absurd (let n = numbered q in omega arith),
+              λ a. bad-not-clear (rw (r .clear) (exact (wordsOf f) w (file-formed f (r .clear)) .1 a)) h,
+            );
       }
 
 -- number and place settle the answer
-answer-one : (r s : Checked) → numberOf r ≡ numberOf s → placeOf r ≡ placeOf s → r ≡ s
-answer-one Accepted Accepted a b = refl
-answer-one Accepted (Refused q) a b = absurd (never-done q (sym a))
-answer-one (Refused q) Accepted a b = absurd (never-done q a)
-answer-one (Refused q) (Refused u) a b = ap Refused (refusal-one q u a b)
+told : (r : Checked) → Told (λ (_ : Unit {0}). Accepted) Refused r (paper r) tt
+told Accepted = answered tt
+told (Refused q) = refusing q tt
 
 -- two answers that the promise allows are equal
 pub checking-one : {f w : List ℕ} {r s : Checked} → Checking f w r → Checking f w s → r ≡ s
-checking-one {r = r} {s = s} a b = answer-one r s (a .number-is ∙ sym (b .number-is)) (a .place-is ∙ sym (b .place-is))
+checking-one {r = r} {s = s} a b = told-one (told r) (told s) (a .paper-is ∙ sym (b .paper-is)) refl

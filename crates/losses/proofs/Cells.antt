@@ -12,32 +12,27 @@ use lib.ListN.{length}
 use borrow.Author.Tests.{lt-ltb, le-ltb, eq-eqb, ne-eqb, eqb-true}
 use Rattle.basics.specs.Sums.{sum, only}
 use Rattle.basics.specs.Tests.{some}
-use Rattle.basics.proofs.Sums.{sum-same, sum-zero, sum-single, sum-swap, sum-equal}
+use Rattle.basics.proofs.Sums.{only-never, sum-same, sum-zero, sum-single, sum-swap, sum-equal}
 use Rattle.basics.proofs.Tests.{not-both, some-at, some-on, some-none}
-use Rattle.rules.specs.Problem.{rows, cycle, columns, messages, start, width, size, frame, repeat, column, row}
+use Rattle.rules.specs.Problem.{rows, cycle, columns, messages, start, width, lasts, repeat, proposalWords, column, row}
 use Rattle.rules.specs.Sends.{sendAt}
 use Rattle.rules.specs.Tests.{common, meets}
 use Rattle.rules.proofs.Columns.{in-cycle, one-column}
 use Rattle.rules.proofs.Digits.{same-digit, rows-agree}
 use Rattle.rules.proofs.Exact.{common-divides}
-use Rattle.rules.proofs.Meaning.{SoundAll, faultless, is-meets}
+use Rattle.rules.proofs.Meaning.{is-meets}
 use Rattle.rules.proofs.Slots.{Slot, slot, send-is}
+use Rattle.proposal.specs.Accepted.{Accepted}
+use Rattle.proposal.proofs.Sound.{sound, placed}
 use Rattle.losses.specs.Losses.{matrix, used, startsAt, occupied, overCells}
-use Rattle.checker.specs.Accepted.{Accepted}
-use Rattle.losses.specs.Parts.{held, lostOf, emptyOf}
+use Rattle.losses.specs.Parts.{held, share, window-part, empty-part}
 
 module _ {p w : List ℕ} (a : Accepted p w) where
-  sound : SoundAll p w
-  sound = faultless p w .0 (a .faultless)
-
-  pub words : length w ≡ 2 * messages p
-  words = sound .words
-
   pub at : (j : ℕ) → j < messages p → Slot p w j
-  at j l = slot p w (a .formed) j l (sound .each j l .alone .placed)
+  at j l = slot p w (a .formed) j l (placed a j l)
 
-  pub fits : (j : ℕ) → j < messages p → frame (size p j) ≤ width p (column w j)
-  fits j l = sound .each j l .alone .fits
+  pub fits : (j : ℕ) → j < messages p → lasts p j ≤ width p (column w j)
+  fits j l = sound a .each j l .alone .fits
 
   -- ---- where message j starts
   pub record Here (j i c : ℕ) : Type 0 where
@@ -62,13 +57,16 @@ module _ {p w : List ℕ} (a : Accepted p w) where
         same-row = q;
       }
 
+  -- one of its first R sends, since it is sent every row at most
+  turn-below : (j i c : ℕ) → j < messages p → i < rows p → (h : Here j i c) → h .turn < rows p
+  turn-below j i c l li h = let s = at j l in omega (arith, mul-le-mul-right {m = 1} {n = repeat p j} (h .turn) (omega (arith, s .placed)), h .same-row)
+
   pub here-starts : (j i c : ℕ) → j < messages p → i < rows p → Here j i c → startsAt p w j i c ≡ true
   unfolding startsAt
   here-starts j i c l li h =
       let s = at j l in
-      let few : h .turn < rows p = omega (arith, mul-le-mul-right {m = 1} {n = repeat p j} (h .turn) (omega (arith, s .placed)), h .same-row) in
       let e : sendAt p w j (h .turn) ≡ i * cycle p + start p c = rw (send-is p w j s (h .turn), h .same-row, h .same-column) in
-      some-on (rows p) (h .turn) (λ n. eqb (sendAt p w j n) (i * cycle p + start p c)) few (eq-eqb _ _ e)
+      some-on (rows p) (h .turn) (λ n. eqb (sendAt p w j n) (i * cycle p + start p c)) (turn-below j i c l li h) (eq-eqb _ _ e)
 
   -- ---- at most one message starts in a cell
   meeting : (j k i c : ℕ) → j < messages p → k < messages p → Here j i c → Here k i c → T (meets p w j k)
@@ -81,19 +79,18 @@ module _ {p w : List ℕ} (a : Accepted p w) where
 
   pub one-holder : (j k i c : ℕ) → j < messages p → k < messages p → Here j i c → Here k i c → j ≡ k
   one-holder j k i c lj lk h g =
-      let not-before : ¬ (j < k) = λ l. sound .each k lk .clear j l (meeting j k i c lj lk h g) in
-      let not-behind : ¬ (k < j) = λ l. sound .each j lj .clear k l (meeting k j i c lk lj g h) in
+      let not-before : ¬ (j < k) = λ l. sound a .each k lk .clear j l (meeting j k i c lj lk h g) in
+      let not-behind : ¬ (k < j) = λ l. sound a .each j lj .clear k l (meeting k j i c lk lj g h) in
       omega arith
 
   -- a sum over the messages that start in a cell has one term, or none
   module _ (i c n : ℕ) (f : ℕ → ℕ) (lc : c < columns p) (ln : n ≤ messages p) where
     pub one-term : (j : ℕ) → j < n → startsAt p w j i c ≡ true → sum n (λ k. only (startsAt p w k i c) (f k)) ≡ f j
     one-term j l h =
-        sum-single n (λ k. only (startsAt p w k i c) (f k)) j l (λ k m q. other k m q (startsAt p w k i c) refl) ∙ rw h
-      where
-        other : (k : ℕ) → k < n → ¬ (k ≡ j) → (b : Bool) → startsAt p w k i c ≡ b → only (startsAt p w k i c) (f k) ≡ 0
-        other k m q false e = rw e
-        other k m q true e = absurd (q (one-holder k j i c (omega arith) (omega arith) (starts-here k i c (omega arith) lc e) (starts-here j i c (omega arith) lc h)))
+        sum-single n (λ k. only (startsAt p w k i c) (f k)) j l
+        (λ k m q. only-never (startsAt p w k i c) (f k)
+        (λ e. q (one-holder k j i c (omega arith) (omega arith) (starts-here k i c (omega arith) lc e) (starts-here j i c (omega arith) lc h))))
+        ∙ rw h
 
     pub no-term : ((j : ℕ) → j < n → startsAt p w j i c ≡ false) → sum n (λ k. only (startsAt p w k i c) (f k)) ≡ 0
     no-term h = sum-zero n (λ k. only (startsAt p w k i c) (f k)) (λ k l. rw (h k l))
@@ -102,24 +99,24 @@ module _ {p w : List ℕ} (a : Accepted p w) where
   module _ (i c : ℕ) (lc : c < columns p) where
     pub record Cell : Type 0 where
       pub held-most : held p w (messages p) i c ≤ width p c
-      pub lost-is : sum (messages p) (λ j. only (startsAt p w j i c) (width p c - frame (size p j))) ≡ lostOf (held p w (messages p) i c) (width p c)
-      pub empty-is : only (not (occupied p w i c)) (width p c) ≡ emptyOf (held p w (messages p) i c) (width p c)
+      pub lost-is : sum (messages p) (λ j. only (startsAt p w j i c) (width p c - lasts p j)) ≡ share window-part (held p w (messages p) i c) (width p c)
+      pub empty-is : only (not (occupied p w i c)) (width p c) ≡ share empty-part (held p w (messages p) i c) (width p c)
 
-    pub cell : Cell
+    pub cell-is : Cell
     unfolding held occupied
-    cell = go (some (messages p) (λ j. startsAt p w j i c)) refl
+    cell-is = go (some (messages p) (λ j. startsAt p w j i c)) refl
       where
         go : (b : Bool) → some (messages p) (λ j. startsAt p w j i c) ≡ b → Cell
         go false e =
             let none = some-none (messages p) (λ j. startsAt p w j i c) e in
-            let x = no-term i c (messages p) (λ j. frame (size p j)) lc (omega arith) none in
-            let y = no-term i c (messages p) (λ j. width p c - frame (size p j)) lc (omega arith) none in
+            let x = no-term i c (messages p) (λ j. lasts p j) lc (omega arith) none in
+            let y = no-term i c (messages p) (λ j. width p c - lasts p j) lc (omega arith) none in
             record { held-most = rw x (omega arith); lost-is = rw (x, y); empty-is = rw (x, e) }
         go true e =
             let j = some-at (messages p) (λ j. startsAt p w j i c) e in
-            let x = one-term i c (messages p) (λ j. frame (size p j)) lc (omega arith) (j .0) (j .1) (j .2) in
-            let y = one-term i c (messages p) (λ j. width p c - frame (size p j)) lc (omega arith) (j .0) (j .1) (j .2) in
-            let z : eqb (frame (size p (j .0))) 0 ≡ false = ne-eqb (frame (size p (j .0))) 0 (λ q. omega arith) in
+            let x = one-term i c (messages p) (λ j. lasts p j) lc (omega arith) (j .0) (j .1) (j .2) in
+            let y = one-term i c (messages p) (λ j. width p c - lasts p j) lc (omega arith) (j .0) (j .1) (j .2) in
+            let z : eqb (lasts p (j .0)) 0 ≡ false = ne-eqb (lasts p (j .0)) 0 (λ q. omega arith) in
             let wide = ap (width p) (starts-here (j .0) i c (j .1) lc (j .2) .same-column) in
             let fit = fits (j .0) (j .1) in
             record {
@@ -148,7 +145,7 @@ module _ {p w : List ℕ} (a : Accepted p w) where
         ]
 
     -- of the turns of a message one falls on row i, where it starts there, and else none
-    turn-sum : (i : ℕ) → i < rows p → sum (rows p) (λ n. only (eqb (turns n) i) (frame (size p j))) ≡ only (startsAt p w j i (column w j)) (frame (size p j))
+    turn-sum : (i : ℕ) → i < rows p → sum (rows p) (λ n. only (eqb (turns n) i) (lasts p j)) ≡ only (startsAt p w j i (column w j)) (lasts p j)
     unfolding turns
     turn-sum i li = go (startsAt p w j i (column w j)) refl
       where
@@ -156,33 +153,28 @@ module _ {p w : List ℕ} (a : Accepted p w) where
         lc = at j l .placed .column-below
 
         go : (b : Bool) → startsAt p w j i (column w j) ≡ b
-            → sum (rows p) (λ n. only (eqb (row w j + n * repeat p j) i) (frame (size p j))) ≡ only (startsAt p w j i (column w j)) (frame (size p j))
+            → sum (rows p) (λ n. only (eqb (row w j + n * repeat p j) i) (lasts p j)) ≡ only (startsAt p w j i (column w j)) (lasts p j)
         go true e =
             let h = starts-here j i (column w j) l lc e in
             let s = at j l in
-            let few : h .turn < rows p = omega (arith, mul-le-mul-right {m = 1} {n = repeat p j} (h .turn) (omega (arith, s .placed)), h .same-row) in
-            sum-single (rows p) (λ n. only (eqb (row w j + n * repeat p j) i) (frame (size p j))) (h .turn) few
+            sum-single (rows p) (λ n. only (eqb (row w j + n * repeat p j) i) (lasts p j)) (h .turn) (turn-below j i (column w j) l li h)
             (λ k m q. rw (ne-eqb (row w j + k * repeat p j) i (λ z. q (eq-of-mul-eq-mul-right (repeat p j) (omega (arith, s .placed)) k (h .turn) (omega (arith, h .same-row))))))
             ∙ rw (e, eq-eqb _ _ (h .same-row))
         go false e =
-            sum-zero (rows p) (λ n. only (eqb (row w j + n * repeat p j) i) (frame (size p j)))
+            sum-zero (rows p) (λ n. only (eqb (row w j + n * repeat p j) i) (lasts p j))
             (λ k m. rw (ne-eqb (row w j + k * repeat p j) i (λ z. not-both (here-starts j i (column w j) l li record { same-column = refl; turn = k; same-row = z }) e)))
             ∙ rw e
 
     -- in row i message j starts in its own column or in none
-    own-column : (i : ℕ) → sum (columns p) (λ c. only (startsAt p w j i c) (frame (size p j))) ≡ only (startsAt p w j i (column w j)) (frame (size p j))
+    own-column : (i : ℕ) → sum (columns p) (λ c. only (startsAt p w j i c) (lasts p j)) ≡ only (startsAt p w j i (column w j)) (lasts p j)
     own-column i =
-        sum-single (columns p) (λ c. only (startsAt p w j i c) (frame (size p j))) (column w j) (at j l .placed .column-below)
-        (λ c lc q. other c lc q (startsAt p w j i c) refl)
-      where
-        other : (c : ℕ) → c < columns p → ¬ (c ≡ column w j) → (b : Bool) → startsAt p w j i c ≡ b → only (startsAt p w j i c) (frame (size p j)) ≡ 0
-        other c lc q false e = rw e
-        other c lc q true e = absurd (q (sym (starts-here j i c l lc e .same-column)))
+        sum-single (columns p) (λ c. only (startsAt p w j i c) (lasts p j)) (column w j) (at j l .placed .column-below)
+        (λ c lc q. only-never (startsAt p w j i c) (lasts p j) (λ e. q (sym (starts-here j i c l lc e .same-column))))
 
-    pub sends-cells : sum (rows p) (λ n. only (ltb (sendAt p w j n) (matrix p)) (frame (size p j))) ≡ overCells p (λ i c. only (startsAt p w j i c) (frame (size p j)))
+    pub sends-cells : sum (rows p) (λ n. only (ltb (sendAt p w j n) (matrix p)) (lasts p j)) ≡ overCells p (λ i c. only (startsAt p w j i c) (lasts p j))
     sends-cells =
-        sum-same (rows p) _ _ (λ n m. ap (λ (b : Bool). only b (frame (size p j))) (in-matrix n) ∙ sym (sum-equal (rows p) (turns n) (frame (size p j))))
-        ∙ sum-swap (rows p) (rows p) (λ n i. only (eqb (turns n) i) (frame (size p j)))
+        sum-same (rows p) _ _ (λ n m. ap (λ (b : Bool). only b (lasts p j)) (in-matrix n) ∙ sym (sum-equal (rows p) (turns n) (lasts p j)))
+        ∙ sum-swap (rows p) (rows p) (λ n i. only (eqb (turns n) i) (lasts p j))
         ∙ sum-same (rows p) _ _ (λ i li. turn-sum i li ∙ sym (own-column i))
 
   -- what the sends use is what the cells are held for
@@ -190,5 +182,5 @@ module _ {p w : List ℕ} (a : Accepted p w) where
   unfolding used held
   used-cells =
       sum-same (messages p) _ _ (λ j l. sends-cells j l)
-      ∙ sum-swap (messages p) (rows p) (λ j i. sum (columns p) (λ c. only (startsAt p w j i c) (frame (size p j))))
-      ∙ sum-same (rows p) _ _ (λ i l. sum-swap (messages p) (columns p) (λ j c. only (startsAt p w j i c) (frame (size p j))))
+      ∙ sum-swap (messages p) (rows p) (λ j i. sum (columns p) (λ c. only (startsAt p w j i c) (lasts p j)))
+      ∙ sum-same (rows p) _ _ (λ i l. sum-swap (messages p) (columns p) (λ j c. only (startsAt p w j i c) (lasts p j)))

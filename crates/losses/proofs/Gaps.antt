@@ -1,5 +1,5 @@
 -- What neither reference nor columns cover of a row is what their lengths leave of it.
-use Prim.Native.Nat.{ℕ, _+_, _-_, _≤_, _<_}
+use Prim.Native.Nat.{ℕ, _+_, _≤_, _<_}
 use mathlib.Core.Path.{_≡_, refl, _∙_}
 use mathlib.Core.Bool.{Bool, true, false, _||_, not}
 use mathlib.Core.List.{List}
@@ -10,8 +10,8 @@ use lib.Dec.{leb, ltb}
 use borrow.Author.Tests.{ltb-true, leb-true, lt-ltb, le-ltb, le-leb}
 use Rattle.basics.specs.Sums.{sum, only}
 use Rattle.basics.specs.Tests.{some}
-use Rattle.basics.proofs.Sums.{sum-same, sum-zero, sum-single, sum-swap, sum-add, sum-ones, sum-span}
-use Rattle.basics.proofs.Tests.{and-true, some-at, some-none}
+use Rattle.basics.proofs.Sums.{only-never, sum-same, sum-zero, sum-single, sum-swap, sum-add, sum-ones, sum-span}
+use Rattle.basics.proofs.Tests.{never, and-true, some-at, some-none}
 use Rattle.rules.specs.Problem.{cycle, refLen, columns, start, width, WellFormed}
 use Rattle.rules.proofs.Columns.{behind-reference, in-cycle, one-column}
 use Rattle.losses.specs.Losses.{inColumn, covered, uncovered}
@@ -34,14 +34,12 @@ module _ {p : List ℕ} (wf : WellFormed p) where
 
   in-one : (y c : ℕ) → c < columns p → inColumn p y c ≡ true → inColumns y ≡ 1
   unfolding inColumns
-  in-one y c l e = sum-single (columns p) (λ c. only (inColumn p y c) 1) c l (λ d m q. other d m q (inColumn p y d) refl) ∙ rw e
-    where
-      other : (d : ℕ) → d < columns p → ¬ (d ≡ c) → (b : Bool) → inColumn p y d ≡ b → only (inColumn p y d) 1 ≡ 0
-      other d m q false h = rw h
-      other d m q true h =
-          let u = column-within y d h in
-          let v = column-within y c e in
-          absurd (q (one-column p wf d c y m l (u .from) (u .to) (v .from) (v .to)))
+  in-one y c l e =
+      sum-single (columns p) (λ c. only (inColumn p y c) 1) c l (λ d m q. only-never (inColumn p y d) 1 (λ h.
+      let u = column-within y d h in
+      let v = column-within y c e in
+      q (one-column p wf d c y m l (u .from) (u .to) (v .from) (v .to))))
+      ∙ rw e
 
   in-none : (y : ℕ) → ((c : ℕ) → c < columns p → inColumn p y c ≡ false) → inColumns y ≡ 0
   unfolding inColumns
@@ -51,12 +49,11 @@ module _ {p : List ℕ} (wf : WellFormed p) where
   unfolding covered
   each-place y = elim (decLt y (refLen p)) [ yes h ↦ before h | no h ↦ behind (omega arith) (some (columns p) (inColumn p y)) refl ]
     where
-      outside : y < refLen p → (c : ℕ) → c < columns p → (b : Bool) → inColumn p y c ≡ b → inColumn p y c ≡ false
-      outside h c l false e = e
-      outside h c l true e = let u = column-within y c e in let b = behind-reference p wf c l in absurd (omega arith)
+      outside : y < refLen p → (c : ℕ) → c < columns p → inColumn p y c ≡ false
+      outside h c l = never (inColumn p y c) (λ e. let u = column-within y c e in let b = behind-reference p wf c l in omega arith)
 
       before : y < refLen p → only (ltb y (refLen p)) 1 + inColumns y + only (not (ltb y (refLen p) || some (columns p) (inColumn p y))) 1 ≡ 1
-      before h = rw (lt-ltb y (refLen p) h, in-none y (λ c l. outside h c l (inColumn p y c) refl))
+      before h = rw (lt-ltb y (refLen p) h, in-none y (outside h))
 
       behind : refLen p ≤ y → (b : Bool) → some (columns p) (inColumn p y) ≡ b
           → only (ltb y (refLen p)) 1 + inColumns y + only (not (ltb y (refLen p) || some (columns p) (inColumn p y))) 1 ≡ 1

@@ -1,3 +1,5 @@
+pub mod Terms
+pub mod Early
 pub mod Cells
 pub mod Gaps
 pub mod Sum

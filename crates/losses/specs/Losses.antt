@@ -5,7 +5,7 @@ use mathlib.Core.List.{List}
 use lib.Dec.{leb, ltb, eqb}
 use Rattle.basics.specs.Sums.{sum, only}
 use Rattle.basics.specs.Tests.{some}
-use Rattle.rules.specs.Problem.{rows, cycle, refLen, columns, messages, start, width, size, frame}
+use Rattle.rules.specs.Problem.{rows, cycle, refLen, columns, messages, start, width, lasts}
 use Rattle.rules.specs.Sends.{sendAt}
 
 -- how long a matrix cycle is
@@ -16,9 +16,9 @@ matrix p = rows p * cycle p
 abbrev pub reference : List ℕ → ℕ
 reference p = rows p * refLen p
 
--- ---- used: the sum of C over all sends that start in the cycle (a send that does is one of the first R of its message)
+-- ---- used: the sum of C over all sends that start in the cycle; each is one of the first R of its message (theorem early-sends, and used-all: no other is missed)
 unfoldable pub used : List ℕ → List ℕ → ℕ
-used p w = sum (messages p) (λ j. sum (rows p) (λ n. only (ltb (sendAt p w j n) (matrix p)) (frame (size p j))))
+used p w = sum (messages p) (λ j. sum (rows p) (λ n. only (ltb (sendAt p w j n) (matrix p)) (lasts p j)))
 
 -- ---- the cells: a send of message j starts at the cell of row i and column c; a cell is occupied if some send starts there
 unfoldable pub startsAt : List ℕ → List ℕ → ℕ → ℕ → ℕ → Bool
@@ -32,7 +32,7 @@ overCells p f = sum (rows p) (λ i. sum (columns p) (f i))
 
 -- ---- in-window: the sum of width minus C over occupied cells, C that of the send that starts there
 unfoldable pub inWindow : List ℕ → List ℕ → ℕ
-inWindow p w = overCells p (λ i c. sum (messages p) (λ j. only (startsAt p w j i c) (width p c - frame (size p j))))
+inWindow p w = overCells p (λ i c. sum (messages p) (λ j. only (startsAt p w j i c) (width p c - lasts p j)))
 
 -- ---- empty: the widths of unoccupied cells
 unfoldable pub empty : List ℕ → List ℕ → ℕ

@@ -6,59 +6,94 @@ use mathlib.Core.List.{List}
 use lib.Dec.{eqb}
 use lib.ListN.{length, getD}
 use Rattle.basics.specs.Sums.{sum, only}
-use Rattle.rules.specs.Problem.{rows, columns, messages, width, size, frame}
+use Rattle.rules.specs.Problem.{mostRows, mostColumns, rows, columns, width, lasts}
 use Rattle.losses.specs.declared.answer.BusTime.{BusTime}
 use Rattle.losses.specs.declared.Tally.{Tally}
 use Rattle.losses.specs.Losses.{startsAt, reference, used, inWindow, empty, gaps}
 
+-- ---- the table: at most 64 rows of 32 columns, so 2,048 cells, row by row; it says how long each cell is held
+abbrev pub cells : ℕ
+cells = mostRows * mostColumns
+
+-- where row i and column c stand in it, and what it says there
+abbrev pub cell : ℕ → ℕ → ℕ
+cell i c = mostColumns * i + c
+
+abbrev pub heldIn : List ℕ → ℕ → ℕ → ℕ
+heldIn t i c = getD t (cell i c) 0
+
 -- how long the cell of row i and column c is held by the first n messages
 unfoldable pub held : List ℕ → List ℕ → ℕ → ℕ → ℕ → ℕ
-held p w n i c = sum n (λ j. only (startsAt p w j i c) (frame (size p j)))
+held p w n i c = sum n (λ j. only (startsAt p w j i c) (lasts p j))
 
--- word 32 i + c of t says so, for every cell
+-- the table t says so, for every cell
 pub record Table (p w : List ℕ) (n : ℕ) (t : List ℕ) : Type 0 where
-  pub long : length t ≡ 2048
-  pub cell : (i c : ℕ) → i < rows p → c < columns p → getD t (32 * i + c) 0 ≡ held p w n i c
+  pub long : length t ≡ cells
+  pub each : (i c : ℕ) → i < rows p → c < columns p → heldIn t i c ≡ held p w n i c
 
--- t with x in each word 32 (r + n · step) + c of a row below `rows`, and no other
+-- t with x in column c of each row r + n · step below `rows`, and nowhere else
 pub record Marked (t : List ℕ) (c r step rows x : ℕ) (t′ : List ℕ) : Type 0 where
   pub long : length t′ ≡ length t
-  pub here : (n : ℕ) → r + n * step < rows → getD t′ (32 * (r + n * step) + c) 0 ≡ x
-  pub elsewhere : (k : ℕ) → ((n : ℕ) → r + n * step < rows → ¬ (k ≡ 32 * (r + n * step) + c)) → getD t′ k 0 ≡ getD t k 0
+  pub here : (n : ℕ) → r + n * step < rows → heldIn t′ (r + n * step) c ≡ x
+  pub elsewhere : (k : ℕ) → ((n : ℕ) → r + n * step < rows → ¬ (k ≡ cell (r + n * step) c)) → getD t′ k 0 ≡ getD t k 0
 
 -- no cell is held for longer than it is wide
 pub record Fits (p t : List ℕ) : Type 0 where
-  pub each : (i c : ℕ) → i < rows p → c < columns p → getD t (32 * i + c) 0 ≤ width p c
+  pub each : (i c : ℕ) → i < rows p → c < columns p → heldIn t i c ≤ width p c
 
--- of a cell that is held for x and is so wide: what is lost in the window, and what is empty
-abbrev pub lostOf : ℕ → ℕ → ℕ
-lostOf x wide = only (not (eqb x 0)) (wide - x)
+-- ---- the three figures of the cells: each cell is used, or loses the rest of its width, or is empty
+pub data Part : Type 0 where
+  used-part : Part
+  window-part : Part
+  empty-part : Part
 
-abbrev pub emptyOf : ℕ → ℕ → ℕ
-emptyOf x wide = only (eqb x 0) wide
+-- as a tally has it
+abbrev pub part : Part → Tally → ℕ
+part used-part r = r .used
+part window-part r = r .in_window
+part empty-part r = r .empty
 
--- r is the tally s with used, lost and empty added
-pub record Added (s : Tally) (used lost empty : ℕ) (r : Tally) : Type 0 where
-  pub used-is : r .used ≡ s .used + used
-  pub lost-is : r .in_window ≡ s .in_window + lost
-  pub empty-is : r .empty ≡ s .empty + empty
+-- what a cell adds that is held for x and is so wide, and what the first n cells of row i add
+abbrev pub share : Part → ℕ → ℕ → ℕ
+share used-part x wide = x
+share window-part x wide = only (not (eqb x 0)) (wide - x)
+share empty-part x wide = only (eqb x 0) wide
 
--- r is the tally s with the first n cells of row i added
+abbrev pub rowShare : Part → List ℕ → List ℕ → ℕ → ℕ → ℕ
+rowShare k p t i n = sum n (λ c. share k (heldIn t i c) (width p c))
+
+-- r is the tally s with one such cell added
+pub record Added (s : Tally) (x wide : ℕ) (r : Tally) : Type 0 where
+  pub each : (k : Part) → part k r ≡ part k s + share k x wide
+
+-- with the first n cells of row i
 pub record RowAdded (p t : List ℕ) (i n : ℕ) (s r : Tally) : Type 0 where
-  pub used-is : r .used ≡ s .used + sum n (λ c. getD t (32 * i + c) 0)
-  pub lost-is : r .in_window ≡ s .in_window + sum n (λ c. lostOf (getD t (32 * i + c) 0) (width p c))
-  pub empty-is : r .empty ≡ s .empty + sum n (λ c. emptyOf (getD t (32 * i + c) 0) (width p c))
+  pub each : (k : Part) → part k r ≡ part k s + rowShare k p t i n
 
--- r is the tally of all cells of the first n rows
+-- r is the tally of the first n rows
 pub record Tallied (p t : List ℕ) (n : ℕ) (r : Tally) : Type 0 where
-  pub used-is : r .used ≡ sum n (λ i. sum (columns p) (λ c. getD t (32 * i + c) 0))
-  pub lost-is : r .in_window ≡ sum n (λ i. sum (columns p) (λ c. lostOf (getD t (32 * i + c) 0) (width p c)))
-  pub empty-is : r .empty ≡ sum n (λ i. sum (columns p) (λ c. emptyOf (getD t (32 * i + c) 0) (width p c)))
+  pub each : (k : Part) → part k r ≡ sum n (λ i. rowShare k p t i (columns p))
 
--- the five figures of an accepted proposal
-pub record Figures (p w : List ℕ) (l : BusTime) : Type 0 where
-  pub reference-is : l .reference ≡ reference p
-  pub used-is : l .used ≡ used p w
-  pub in-window-is : l .in_window ≡ inWindow p w
-  pub empty-is : l .empty ≡ empty p w
-  pub gaps-is : l .gaps ≡ gaps p
+-- ---- how large they can be: cycle and widths are 16-bit fields of the file, so the cells of a row, and all, come to no more than this
+abbrev pub longest : ℕ
+longest = 65535
+
+abbrev pub rowMost : ℕ
+rowMost = mostColumns * longest
+
+abbrev pub cellsMost : ℕ
+cellsMost = mostRows * rowMost
+
+-- no figure of the tally is more than so much
+pub record Small (most : ℕ) (r : Tally) : Type 0 where
+  pub used : r .used ≤ most
+  pub in-window : r .in_window ≤ most
+  pub empty : r .empty ≤ most
+
+-- ---- the five figures of an accepted proposal
+pub record FiguresAre (p w : List ℕ) (t : BusTime) : Type 0 where
+  pub reference-is : t .reference ≡ reference p
+  pub used-is : t .used ≡ used p w
+  pub in-window-is : t .in_window ≡ inWindow p w
+  pub empty-is : t .empty ≡ empty p w
+  pub gaps-is : t .gaps ≡ gaps p

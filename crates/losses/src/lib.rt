@@ -3,17 +3,20 @@ pub mod answer;
 
 pub use answer::BusTime;
 pub use answer::Lost;
+use basics::FILL;
 use reader::Read;
-use rules::Fault;
 use rules::words;
 ghost use mathlib.Core.Path.{_≡_};
-ghost use Prim.Native.Nat.{_+_, _*_, _-_, _<_, _≤_};
+ghost use Prim.Native.Nat.{_+_, _*_, _<_, _≤_};
 ghost use lib.ListN.{length};
-ghost use Rattle.rules.specs.Problem.{WellFormed, rows, columns as columnCount, messages as messageCount};
+ghost use Rattle.rules.specs.Problem.{mostRows, mostColumns, WellFormed, rows, columns as columnCount, messages as messageCount};
 ghost use Rattle.losses.specs.Losses.{uncovered};
 ghost use Rattle.losses.specs.Promise.{Losing};
-ghost use Rattle.checker.specs.Accepted.{Accepted};
-ghost use Rattle.losses.specs.Parts.{Table, Marked, Fits, Added, RowAdded, Tallied, Figures, lostOf, emptyOf};
+ghost use Rattle.proposal.specs.Accepted.{Accepted};
+ghost use Rattle.losses.specs.Parts.{cells as cellCount, cell, Table, Marked, Fits, Added, RowAdded, Tallied, longest, rowMost, cellsMost, Small, FiguresAre};
+
+// A matrix has at most 64 rows and 32 columns, so 2,048 cells.
+const CELLS: usize = words::MOST_ROWS * words::MOST_COLUMNS;
 
 // What the cells seen so far come to.
 pub struct Tally {
@@ -22,28 +25,29 @@ pub struct Tally {
     pub empty: usize,
 }
 
-// How long a cell is held: a frame takes at most 135, so a byte has room for it.
-fn held_for(x: u8) -> usize
-    ensures { λ r. ⌜ (r ≡ x) × (r < 256) ⌝ }
+// Where row i and column c stand in the table, which has the cells row by row.
+fn cell_of(i: usize, c: usize) -> usize
+    requires { ⌜ (i < mostRows) × (c < mostColumns) ⌝ }
+    ensures { λ r. ⌜ (r ≡ cell i c) × (r < cellCount) ⌝ }
 {
-    x as usize
+    words::MOST_COLUMNS * i + c
 }
 
 // Marks the cells of column c in the rows r, r + step, r + 2 step and so on as held for so long.
-fn mark(table: &mut [u8; 2048], c: usize, r: usize, step: usize, rows: usize, held: u8)
-    requires { ⌜ (c < 32) × (1 ≤ step) × (step ≤ 64) × (rows ≤ 64) × (r < 64) ⌝ }
-    requires { ⌜ length (now table) ≡ 2048 ⌝ }
+fn mark(table: &mut [u8; CELLS], c: usize, r: usize, step: usize, rows: usize, held: u8)
+    requires { ⌜ (c < mostColumns) × (1 ≤ step) × (step ≤ mostRows) × (rows ≤ mostRows) × (r < mostRows) ⌝ }
+    requires { ⌜ length (now table) ≡ cellCount ⌝ }
     ensures { λ _. ⌜ Marked (now (table .entry)) c r step rows held (now (table .exit)) ⌝ }
 {
     let mut i = r;
     while i < rows {
-        table[32 * i + c] = held;
+        table[cell_of(i, c)] = held;
         i += step;
     }
 }
 
-// Marks the cells of every message.
-fn occupy(p: &[u32], w: &[u32], table: &mut [u8; 2048])
+// Marks the cells of every message; a frame takes at most 135, so a byte has room for it.
+fn mark_all(p: &[u32], w: &[u32], table: &mut [u8; CELLS])
     requires { ⌜ Accepted (now p) (now w) ⌝ }
     requires { ⌜ Table (now p) (now w) 0 (now table) ⌝ }
     ensures { λ _. ⌜ Table (now (p .entry)) (now (w .entry)) (messageCount (now (p .entry))) (now (table .exit)) ⌝ }
@@ -65,10 +69,10 @@ fn occupy(p: &[u32], w: &[u32], table: &mut [u8; 2048])
     }
 }
 
-// The tally with one cell more, held for x.
+// The tally with one cell more, which is held for x and is so wide.
 fn add_cell(t: Tally, x: usize, wide: usize) -> Tally
-    requires { ⌜ (t .used ≤ 4294967295) × (t .in_window ≤ 4294967295) × (t .empty ≤ 4294967295) × (x ≤ wide) × (wide ≤ 65535) ⌝ }
-    ensures { λ r. ⌜ Added t x (lostOf x wide) (emptyOf x wide) r ⌝ }
+    requires { ⌜ Small cellsMost t × (x ≤ wide) × (wide ≤ longest) ⌝ }
+    ensures { λ r. ⌜ Added t x wide r ⌝ }
 {
     if x == 0 {
         return Tally {
@@ -84,17 +88,21 @@ fn add_cell(t: Tally, x: usize, wide: usize) -> Tally
     }
 }
 
-// The tally with the cells of row i.
-fn add_row(p: &[u32], table: &[u8; 2048], i: usize, t: Tally) -> Tally
+// The tally of the rows before, with the cells of row i.
+fn add_row(p: &[u32], table: &[u8; CELLS], i: usize, t: Tally) -> Tally
     requires { ⌜ WellFormed (now p) × Fits (now p) (now table) × (i < rows (now p)) ⌝ }
-    requires { ⌜ (t .used ≤ 134217728) × (t .in_window ≤ 134217728) × (t .empty ≤ 134217728) ⌝ }
+    requires { ⌜ Small (i * rowMost) t ⌝ }
     ensures { λ r. ⌜ RowAdded (now (p .entry)) (now (table .entry)) i (columnCount (now (p .entry))) t r ⌝ }
 {
     let columns = words::columns_of(p);
     let mut sum = t;
     let mut c: usize = 0;
     while c < columns {
-        let next = add_cell(sum, held_for(table[32 * i + c]), words::width_of(p, c));
+        let next = add_cell(
+            sum,
+            basics::wide_byte(table[cell_of(i, c)]),
+            words::width_of(p, c),
+        );
         sum = next;
         c += 1;
     }
@@ -102,7 +110,7 @@ fn add_row(p: &[u32], table: &[u8; 2048], i: usize, t: Tally) -> Tally
 }
 
 // What all cells come to.
-fn all_cells(p: &[u32], table: &[u8; 2048]) -> Tally
+fn all_cells(p: &[u32], table: &[u8; CELLS]) -> Tally
     requires { ⌜ WellFormed (now p) × Fits (now p) (now table) ⌝ }
     ensures { λ r. ⌜ Tallied (now (p .entry)) (now (table .entry)) (rows (now (p .entry))) r ⌝ }
 {
@@ -124,7 +132,7 @@ fn all_cells(p: &[u32], table: &[u8; 2048]) -> Tally
 // What neither reference nor columns cover of a row.
 fn gap_of(p: &[u32]) -> usize
     requires { ⌜ WellFormed (now p) ⌝ }
-    ensures { λ r. ⌜ (r ≡ uncovered (now (p .entry))) × (r ≤ 65535) ⌝ }
+    ensures { λ r. ⌜ (r ≡ uncovered (now (p .entry))) × (r ≤ longest) ⌝ }
 {
     let columns = words::columns_of(p);
     let mut covered = words::ref_len_of(p);
@@ -136,13 +144,13 @@ fn gap_of(p: &[u32]) -> usize
     words::cycle_of(p) - covered
 }
 
-// The five figures of an accepted proposal.
+// The five figures of an accepted proposal: the table starts as [0; 2048] and is filled from it, and what stays 0 is empty.
 fn figures(p: &[u32], w: &[u32]) -> BusTime
     requires { ⌜ Accepted (now p) (now w) ⌝ }
-    ensures { λ r. ⌜ Figures (now (p .entry)) (now (w .entry)) r ⌝ }
+    ensures { λ r. ⌜ FiguresAre (now (p .entry)) (now (w .entry)) r ⌝ }
 {
-    let mut table = [0u8; 2048];
-    occupy(p, w, &mut table);
+    let mut table = [0u8; CELLS];
+    mark_all(p, w, &mut table);
     let cells = all_cells(p, &table);
     let rows = words::rows_of(p);
     BusTime {
@@ -158,15 +166,10 @@ fn figures(p: &[u32], w: &[u32]) -> BusTime
 pub fn losses(file: &[u8], proposal: &[u32]) -> Lost
     ensures { λ r. ⌜ Losing (now (file .entry)) (now (proposal .entry)) r ⌝ }
 {
-    // 1 and not 0: filled in place, without a call of memset
-    let mut words = [1u32; 519];
-    let got = reader::decode(file, &mut words);
+    let mut words = [FILL; words::MOST_WORDS];
+    let got = proposal::accept(file, proposal, &mut words);
     let Read::Problem(n) = got else {
         return Lost::Refused(reader::answer::refusal_of(got));
     };
-    let fault = checker::proposal_fault(&words[..n], proposal);
-    if let Fault::Bad(q) = fault {
-        return Lost::Refused(q);
-    }
     Lost::Figures(figures(&words[..n], proposal))
 }

@@ -4,10 +4,11 @@ use mathlib.Core.Path.{_≡_, sym, ap, ap₂, _∙_}
 use mathlib.Core.List.{List, [], _∷_, _++_}
 use native.Mathlib.Omega.{arith}
 use lib.ListN.{length}
+use Rattle.basics.proofs.Rising.{in-order-one}
 use Rattle.basics.proofs.Runs.{run-same}
+use Rattle.rules.specs.Problem.{nodes}
 use Rattle.rules.specs.Sends.{Source}
 use Rattle.triggers.specs.Lists.{Before, by-mark, by-row, ListOf, entries, Lists}
-use Rattle.triggers.proofs.Sorting.{one-rising}
 
 not-both-ways : (p w : List ℕ) (s t : Source) → Before p w s t → Before p w t s → ⊥
 not-both-ways p w s t (by-mark a) (by-mark b) = omega arith
@@ -16,14 +17,13 @@ not-both-ways p w s t (by-row a c) (by-mark b) = omega arith
 not-both-ways p w s t (by-row a c) (by-row b d) = omega arith
 
 pub list-one : {p w : List ℕ} {n : ℕ} {l m : List Source} → ListOf p w n l → ListOf p w n m → l ≡ m
-list-one {p} {w} {n} {l} {m} a b =
-    one-rising (not-both-ways p w) l m (a .rising) (b .rising) (λ s h. b .all s (a .only s h)) (λ s h. a .all s (b .only s h))
+list-one {p} {w} a b = in-order-one (not-both-ways p w) a b
 
 pub lists-one : {p w x y : List ℕ} → Lists p w x → Lists p w y → x ≡ y
 lists-one {p} {w} a b =
-    let same : (n : ℕ) → n < 16 → a .list n ≡ b .list n = λ n l. list-one (a .each n l) (b .each n l) in
+    let same : (n : ℕ) → n < nodes → a .list n ≡ b .list n = λ n l. list-one (a .each n l) (b .each n l) in
     a .words
     ∙ ap₂ _++_
-    (run-same (λ n. length (a .list n) ∷ []) (λ n. length (b .list n) ∷ []) 16 (λ n l. ap (λ (t : List Source). length t ∷ []) (same n l)))
-    (run-same (λ n. entries p w n (a .list n)) (λ n. entries p w n (b .list n)) 16 (λ n l. ap (entries p w n) (same n l)))
+    (run-same (λ n. length (a .list n) ∷ []) (λ n. length (b .list n) ∷ []) nodes (λ n l. ap (λ (t : List Source). length t ∷ []) (same n l)))
+    (run-same (λ n. entries p w n (a .list n)) (λ n. entries p w n (b .list n)) nodes (λ n l. ap (entries p w n) (same n l)))
     ∙ sym (b .words)

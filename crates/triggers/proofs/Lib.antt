@@ -1,9 +1,9 @@
 pub mod Sorting
 pub mod Determined
 pub mod Choosing
-pub mod Listing
+pub mod NodeLists
 pub mod Inserting
 pub mod Computed
 pub mod Written
+pub mod Results
 pub mod Answering
-pub mod Promised

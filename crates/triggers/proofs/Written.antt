@@ -1,5 +1,5 @@
 -- What is written piece by piece, each piece by way of the rest of the buffer.
-use Prim.Native.Nat.{ℕ, zero, suc, _+_, _*_, _-_, _%_, _<_, _≤_}
+use Prim.Native.Nat.{ℕ, zero, suc, _+_, _*_, _-_, _<_, _≤_}
 use mathlib.Core.Path.{_≡_, refl, sym, ap, _∙_}
 use mathlib.Core.List.{List, [], _∷_, _++_, append-nil, append-assoc}
 use mathlib.Core.Logic.{⊎-elim}
@@ -15,33 +15,33 @@ use Rattle.basics.specs.Sums.{sum}
 use Rattle.basics.proofs.Runs.{tail-part, put-tail}
 use Rattle.rules.specs.Problem.{refId}
 use Rattle.rules.specs.Sends.{Source, reference}
-use Rattle.triggers.specs.Lists.{entry, entries}
-use Rattle.triggers.specs.Order.{chosen, share}
+use Rattle.triggers.specs.Lists.{entryWords, entry, entries}
+use Rattle.triggers.specs.Order.{numberIn, chosen, messageEntry, messageEntries}
 use Rattle.triggers.specs.Parts.{Put}
 
--- ---- a buffer that is filled from the front
--- x stands at the front of the buffer d, which then is l, and ends at `at`
-pub record Filled (x d l : List ℕ) (at : ℕ) : Type 0 where
+-- ---- a buffer that is written from the front
+-- x stands at the front of the buffer d, which then is l, and ends at `at`, inside it
+pub record Begins (x d l : List ℕ) (at : ℕ) : Type 0 where
   pub put : Put x d l at
   pub long : length l ≡ length d
   pub inside : at ≤ length d
 
-pub filled : {x d l : List ℕ} {at : ℕ} → Put x d l at → length x ≤ length d → Filled x d l at
-filled h r = record {
+pub begins : {x d l : List ℕ} {at : ℕ} → Put x d l at → length x ≤ length d → Begins x d l at
+begins h r = record {
   put = h;
   long = rw (h .is, length-append, length-drop) (omega (arith, h .count));
   inside = omega (arith, h .count);
 }
 
-pub filled-none : (d : List ℕ) → Filled [] d d 0
-filled-none d = filled (record { count = refl; is = refl }) (omega arith)
+pub begins-none : (d : List ℕ) → Begins [] d d 0
+begins-none d = begins (record { count = refl; is = refl }) (omega arith)
 
 -- a piece more, by way of the rest
-module _ {x d l : List ℕ} {at : ℕ} (h : Filled x d l at) {z : List ℕ} (y : List ℕ) (e : z ≡ x ++ y) (room : length z ≤ length d) where
-  pub filled-more : {ys : List ℕ} {r : ℕ} → Put y (take (length l - at) (drop at l)) ys r → Filled z d (putMid at (length l - at) l ys) (at + r)
-  filled-more {ys} {r} q =
+module _ {x d l : List ℕ} {at : ℕ} (h : Begins x d l at) {z : List ℕ} (y : List ℕ) (e : z ≡ x ++ y) (room : length z ≤ length d) where
+  pub begins-more : {ys : List ℕ} {r : ℕ} → Put y (take (length l - at) (drop at l)) ys r → Begins z d (putMid at (length l - at) l ys) (at + r)
+  begins-more {ys} {r} q =
       let count : at + r ≡ length (x ++ y) = rw length-append (omega (arith, h .put .count, q .count)) in
-      filled (rw e (record { count = count; is = put-tail x y d l ys at r (h .put .is) (sym (h .put .count)) (q .is) })) room
+      begins (rw e (record { count = count; is = put-tail x y d l ys at r (h .put .is) (sym (h .put .count)) (q .is) })) room
 
   pub room-more : length y ≤ length (take (length l - at) (drop at l))
   room-more = rw (tail-part at l, length-drop) (omega (arith, rw (e, length-append) at room, h .put .count))
@@ -62,7 +62,7 @@ module _ (g : ℕ → List ℕ) where
   pub run-room : (n i : ℕ) {m : ℕ} → i ≤ n → length (run n g) ≤ m → length (run i g) ≤ m
   run-room n i l h = omega (arith, run-grows n i l)
 
-  pub run-all : {n m : ℕ} {d l : List ℕ} {at : ℕ} → n ≡ m → Filled (run n g) d l at → Put (run m g) d l at
+  pub run-all : {n m : ℕ} {d l : List ℕ} {at : ℕ} → n ≡ m → Begins (run n g) d l at → Put (run m g) d l at
   run-all e h = rw e at (h .put)
 
 -- ---- the entries of a row of words
@@ -77,44 +77,44 @@ module _ (p w : List ℕ) (n : ℕ) where
   chosen-append [] b = refl
   chosen-append (v ∷ a) b = rw (chosen-append a b, append-assoc)
 
-  pub length-entries : (l : List Source) → length (entries p w n l) ≡ 4 * length l
+  pub length-entries : (l : List Source) → length (entries p w n l) ≡ entryWords * length l
   unfolding entries entry
   length-entries [] = refl
   length-entries (s ∷ l) = let a = length-entries l in omega arith
 
   -- what stands in the list once the first i words of o are done
   abbrev pub front : List ℕ → ℕ → List ℕ
-  front o i = entries p w n (chosen p n (take i o))
+  front o i = messageEntries p w (take i o) n
 
-  parts : (a b : List ℕ) → entries p w n (chosen p n (a ++ b)) ≡ entries p w n (chosen p n a) ++ entries p w n (chosen p n b)
+  parts : (a b : List ℕ) → messageEntries p w (a ++ b) n ≡ messageEntries p w a n ++ messageEntries p w b n
   parts a b = rw (chosen-append a b, entries-append (chosen p n a) (chosen p n b))
 
   module _ (o : List ℕ) where
-    pub front-none : (d : List ℕ) → Filled (front o 0) d d 0
+    pub front-none : (d : List ℕ) → Begins (front o 0) d d 0
     unfolding entries chosen
-    front-none d = filled-none d
+    front-none d = begins-none d
 
-    pub front-next : (i j : ℕ) → i < length o → j ≡ getD o i 0 % 64 → front o (i + 1) ≡ front o i ++ entries p w n (share p n j)
+    pub front-next : (i j : ℕ) → i < length o → j ≡ numberIn (getD o i 0) → front o (i + 1) ≡ front o i ++ messageEntry p w n j
     unfolding chosen
     front-next i j l e = rw (add-one i, take-suc o i 0 l, parts (take i o) (getD o i 0 ∷ []), append-nil, e)
 
-    pub front-room : (i : ℕ) {m : ℕ} → length (entries p w n (chosen p n o)) ≤ m → length (front o i) ≤ m
+    pub front-room : (i : ℕ) {m : ℕ} → length (messageEntries p w o n) ≤ m → length (front o i) ≤ m
     front-room i h =
-        let e = ap length (ap (λ (t : List ℕ). entries p w n (chosen p n t)) (sym (take-append-drop i o)) ∙ parts (take i o) (drop i o)) in
+        let e = ap length (ap (λ (t : List ℕ). messageEntries p w t n) (sym (take-append-drop i o)) ∙ parts (take i o) (drop i o)) in
         omega (arith, simp length-append at e)
 
-    pub front-all : (i : ℕ) {d l : List ℕ} {at : ℕ} → i ≡ length o → Filled (front o i) d l at → Put (entries p w n (chosen p n o)) d l at
+    pub front-all : (i : ℕ) {d l : List ℕ} {at : ℕ} → i ≡ length o → Begins (front o i) d l at → Put (messageEntries p w o n) d l at
     front-all i e h = rw (take-all i o (omega arith)) at (h .put)
 
   -- the reference's entry comes first
   module _ (l : List Source) (d : List ℕ) (room : length (entries p w n (reference ∷ l)) ≤ length d) where
-    pub reference-room : 4 ≤ length d
+    pub reference-room : entryWords ≤ length d
     unfolding entries entry
     reference-room = omega arith
 
-    pub reference-filled : {r : ℕ} {e : List ℕ} → r ≡ refId p → e ≡ r ∷ 0 ∷ 0 ∷ 1 ∷ drop 4 d → Filled (entry p w n reference) d e 4
+    pub reference-begins : {r : ℕ} {e : List ℕ} → r ≡ refId p → e ≡ r ∷ 0 ∷ 0 ∷ 1 ∷ drop entryWords d → Begins (entry p w n reference) d e entryWords
     unfolding entry
-    reference-filled er e = filled (record { count = refl; is = e ∙ ap (λ (x : ℕ). x ∷ 0 ∷ 0 ∷ 1 ∷ drop 4 d) (omega arith) }) reference-room
+    reference-begins er e = begins (record { count = refl; is = e ∙ ap (λ (x : ℕ). x ∷ 0 ∷ 0 ∷ 1 ∷ drop entryWords d) (omega arith) }) reference-room
 
   pub reference-first : (l : List Source) → entries p w n (reference ∷ l) ≡ entry p w n reference ++ entries p w n l
   unfolding entries

@@ -1,16 +1,13 @@
--- The paper's number, place and count of words for each answer of the call.
+-- Each answer of the call in the paper's terms, and how many words it wrote.
 use Prim.Native.Nat.{ℕ}
-use Rattle.rules.specs.Refusal.{number, place}
+use Rattle.rules.specs.declared.Paper.{Paper}
+use Rattle.rules.specs.Paper.{done, refused}
 use Rattle.triggers.specs.declared.Listed.{Listed}
 use Rattle.triggers.specs.declared.Listed.the-variants.{Lists, Refused}
 
-abbrev pub numberOf : Listed → ℕ
-numberOf (Lists n) = 0
-numberOf (Refused q) = number q
-
-abbrev pub placeOf : Listed → ℕ
-placeOf (Lists n) = 0
-placeOf (Refused q) = place q
+abbrev pub paper : Listed → Paper
+paper (Lists n) = done
+paper (Refused q) = refused q
 
 abbrev pub countOf : Listed → ℕ
 countOf (Lists n) = n

@@ -1,9 +1,11 @@
 -- The sum is the tally with the row's cells before c added. It stays small, since a row adds at most 32 widths.
-use Prim.Native.Nat.{_≤_, _-_}
+use Prim.Native.Nat.{ℕ, _≤_, _-_}
+use mathlib.Core.Path.{_≡_, ap, _∙_}
 use native.Mathlib.Omega.{arith}
+use lib.ListN.{getD}
+use Rattle.losses.specs.Parts.{heldIn, RowAdded}
+use Rattle.losses.proofs.Tallies.{row-none, row-more, row-all, row-small}
 use borrow.Author.Needs.{needs}
-use Rattle.losses.specs.Parts.{RowAdded}
-use Rattle.losses.proofs.Tallies.{Small, row-none, row-more, row-all, row-small}
 use Rattle.losses.proofs.add_row.Statement.{statement}
 use Rattle.losses.proofs.add_row.Tie as tie
 
@@ -16,23 +18,33 @@ abbrev μ-loop : tie.MeasureT-loop
 loop-holds : tie.Need-loop-holds Inv-loop μ-loop
 loop-holds c = (omega arith, row-none)
 
+cell-of-requires : tie.Need-cell-of-requires Inv-loop μ-loop
+cell-of-requires c κs = let formed = c .before .before .before .before .pre .0 .0 in (omega (arith, formed .header .rows-most), omega arith)
+
 width-of-requires : tie.Need-width-of-requires Inv-loop μ-loop
-width-of-requires c κs = (c .before .before .before .before .before .before .pre .0 .0, omega arith)
+width-of-requires c κs = (c .before .before .before .before .before .before .before .pre .0 .0, omega arith)
+
+-- what was read is how long the cell is held
+read : (c : tie.After-wide-byte Inv-loop μ-loop)
+    → let looped = c .before .before .before .before in let args = looped .before .before .before .args in c .wide-byte .result ≡ heldIn (args .table .now) (args .i) (looped .loop .c)
+read c =
+    let celled = c .before .before in
+    let start = celled .before .before .before .before .before in
+    c .wide-byte .ensures .0 ∙ ap (λ (k : ℕ). getD (start .args .table .now) k 0) (celled .cell-of .ensures .0)
 
 add-cell-requires : tie.Need-add-cell-requires Inv-loop μ-loop
 add-cell-requires c κs =
-    let looped = c .before .before .before .before in
+    let widened = c .before in
+    let looped = widened .before .before .before .before in
     let start = looped .before .before .before in
-    let small : Small 134217728 (start .args .t) = record { used = start .pre .1 .0; in-window = start .pre .1 .1; empty = start .pre .1 .2 } in
-    let now = row-small (start .pre .0 .0) (start .pre .0 .1) (start .args .i) (start .pre .0 .2) (looped .loop .c) (omega arith) small (looped .loop .inv .1) in
+    let now = row-small (start .pre .0 .0) (start .pre .0 .1) (start .pre .0 .2) (omega arith) (start .pre .1) (looped .loop .inv .1) in
     let fits = start .pre .0 .1 .each (start .args .i) (looped .loop .c) (start .pre .0 .2) (omega arith) in
-    (omega arith, omega arith, omega arith, omega arith, omega arith)
+    (now, omega (arith, read widened, fits), omega arith)
 
 loop-again : tie.Need-loop-again Inv-loop μ-loop
 loop-again c =
     let widened = c .before .before in
-    let looped = widened .before .before .before in
-    (omega arith, row-more (looped .loop .inv .1) (widened .held-for .ensures .0) (c .before .width-of .ensures .is) (c .add-cell .ensures))
+    (omega arith, row-more (widened .before .before .before .before .loop .inv .1) (read widened) (c .before .width-of .ensures .is) (c .add-cell .ensures))
 
 returns : tie.Need-returns Inv-loop μ-loop
 returns c = let looped = c .before in row-all (looped .loop .inv .1) (looped .before .columns-of .ensures .0) (omega arith) (omega arith)
@@ -45,8 +57,7 @@ add-row-spec =
     μ-loop
     (λ c κs. search needs)
     loop-holds
-    (λ c. search needs)
-    (λ c. search needs)
+    cell-of-requires
     (λ c. search needs)
     (λ c κs. search needs)
     width-of-requires

@@ -1,4 +1,4 @@
--- The sum is the tally of the rows before i. It stays small, since 64 rows of 32 widths are below 2^27.
+-- The sum is the tally of the rows before i. It stays small, since a row adds at most 32 widths.
 use Prim.Native.Nat.{_≤_, _-_}
 use mathlib.Core.Path.{refl}
 use native.Mathlib.Omega.{arith}
@@ -22,7 +22,7 @@ add-row-requires c κs =
     let looped = c .before in
     let start = looped .before .before .before in
     let small = tallied-small (start .pre .0) (start .pre .1) (omega arith) (looped .loop .inv .1) in
-    ((start .pre .0, start .pre .1, omega arith), (small .used, small .in-window, small .empty))
+    ((start .pre .0, start .pre .1, omega arith), small)
 
 loop-again : tie.Need-loop-again Inv-loop μ-loop
 loop-again c = (omega arith, tallied-more (c .before .before .loop .inv .1) (c .add-row .ensures))

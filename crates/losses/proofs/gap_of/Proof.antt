@@ -7,12 +7,13 @@ use Rattle.basics.specs.Sums.{sum}
 use Rattle.basics.proofs.Sums.{sum-next}
 use Rattle.rules.specs.Problem.{cycle, refLen, columns, width}
 use Rattle.losses.specs.Losses.{uncovered}
+use Rattle.losses.specs.Parts.{longest}
 use Rattle.losses.proofs.Gaps.{row-parts}
 use Rattle.losses.proofs.gap_of.Statement.{statement}
 use Rattle.losses.proofs.gap_of.Tie as tie
 
 abbrev Inv-loop : tie.InvT-loop
-Inv-loop p columns covered₀ c₀ covered c = (c ≤ columns) × (covered ≡ refLen p + sum c (width p)) × (covered ≤ 65535 + c * 65535)
+Inv-loop p columns covered₀ c₀ covered c = (c ≤ columns) × (covered ≡ refLen p + sum c (width p)) × (covered ≤ (c + 1) * longest)
 
 abbrev μ-loop : tie.MeasureT-loop
 μ-loop p columns covered₀ c₀ covered c = columns - c

@@ -1,13 +1,14 @@
 -- The cells of the rows below i are marked and no other; i is one of the rows r, r + step, .. and rises by a step until it leaves the matrix.
-use Prim.Native.Nat.{_≤_, _-_}
+use Prim.Native.Nat.{_*_, _<_, _-_}
 use native.Mathlib.Omega.{arith}
-use borrow.Author.Needs.{needs}
+use Rattle.rules.specs.Problem.{mostRows}
 use Rattle.losses.proofs.Marks.{Marking, marking-none, marking-more, marking-all}
+use borrow.Author.Needs.{needs}
 use Rattle.losses.proofs.mark.Statement.{statement}
 use Rattle.losses.proofs.mark.Tie as tie
 
 abbrev Inv-loop : tie.InvT-loop
-Inv-loop table₀ c r step rows held i₀ table i = (i ≤ 128) × Marking table₀ c r step rows held i table
+Inv-loop table₀ c r step rows held i₀ table i = (i < 2 * mostRows) × Marking table₀ c r step rows held i table
 
 abbrev μ-loop : tie.MeasureT-loop
 μ-loop table₀ c r step rows held i₀ table i = rows - i
@@ -17,7 +18,8 @@ loop-holds c = (omega arith, marking-none _ _ _ _ _ _)
 
 loop-again : tie.Need-loop-again Inv-loop μ-loop
 loop-again c =
-    (omega arith, marking-more (c .before .loop .inv .1) (omega arith) (omega arith) (omega arith) (omega arith) (c .before .before .pre .1))
+    let looped = c .before .before in
+    (omega arith, marking-more (looped .loop .inv .1) (omega arith) (omega arith) (c .cell-of .ensures .0) (omega (arith, looped .before .pre .1)) (omega arith))
 
 returns : tie.Need-returns Inv-loop μ-loop
 returns c = marking-all (c .before .loop .inv .1) (omega arith)
@@ -29,8 +31,7 @@ mark-spec =
     Inv-loop
     μ-loop
     loop-holds
-    (λ c. search needs)
-    (λ c. search needs)
+    (λ c κs. search needs)
     (λ c. search needs)
     (λ c. search needs)
     (λ c. search needs)

@@ -2,12 +2,13 @@
 use Prim.Native.Nat.{_≤_, _-_}
 use native.Mathlib.Omega.{arith}
 use borrow.Author.Needs.{needs}
+use Rattle.proposal.proofs.Sound.{words}
 use Rattle.rules.proofs.Bounds.{member}
 use Rattle.losses.specs.Parts.{Table}
-use Rattle.losses.proofs.Cells.{at, words}
+use Rattle.losses.proofs.Cells.{at}
 use Rattle.losses.proofs.Marks.{table-step, table-all}
-use Rattle.losses.proofs.occupy.Statement.{statement}
-use Rattle.losses.proofs.occupy.Tie as tie
+use Rattle.losses.proofs.mark_all.Statement.{statement}
+use Rattle.losses.proofs.mark_all.Tie as tie
 
 abbrev Inv-loop : tie.InvT-loop
 Inv-loop p w table₀ messages rows j₀ table j = (j ≤ messages) × Table p w j table
@@ -53,8 +54,8 @@ loop-again c =
 returns : tie.Need-returns Inv-loop μ-loop
 returns c = let looped = c .before in table-all (looped .loop .inv .1) (looped .before .before .messages-of .ensures .0) (omega arith) (omega arith)
 
-pub occupy-spec : {M : Type 1} → statement M
-occupy-spec =
+pub mark-all-spec : {M : Type 1} → statement M
+mark-all-spec =
     tie.close
     (tie.spec
     Inv-loop

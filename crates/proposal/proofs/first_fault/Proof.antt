@@ -3,10 +3,11 @@
 use Prim.Native.Nat.{_≤_, _-_}
 use native.Mathlib.Omega.{arith}
 use borrow.Author.Needs.{needs}
+use Rattle.rules.specs.Tests.{Stand}
 use Rattle.rules.proofs.Bounds.{member}
-use Rattle.checker.proofs.Walk.{Passed, Unmet, Own, passed-none, passed-more, unmet-none, unmet-more, own-read, all-clear, own-first, met-first}
-use Rattle.checker.proofs.first_fault.Statement.{statement}
-use Rattle.checker.proofs.first_fault.Tie as tie
+use Rattle.proposal.proofs.Walk.{Unmet, Own, passed-none, passed-more, unmet-none, unmet-more, own-read, all-clear, own-first, met-first}
+use Rattle.proposal.proofs.first_fault.Statement.{statement}
+use Rattle.proposal.proofs.first_fault.Tie as tie
 
 abbrev Inv-loop : tie.InvT-loop
 Inv-loop p w messages j i₀ i = (i ≤ j) × Unmet p w i j
@@ -15,7 +16,7 @@ abbrev μ-loop : tie.MeasureT-loop
 μ-loop p w messages j i₀ i = j - i
 
 abbrev Inv-faults : tie.InvT-faults
-Inv-faults p w messages j₀ j = (j ≤ messages) × Passed p w j
+Inv-faults p w messages j₀ j = (j ≤ messages) × Stand p j w
 
 abbrev μ-faults : tie.MeasureT-faults
 μ-faults p w messages j₀ j = messages - j
@@ -61,7 +62,7 @@ returns-3 : tie.Need-returns-3 Inv-loop μ-loop Inv-faults μ-faults
 returns-3 c =
     let clear = c .before .before .before .before in
     let passed = clear .before .before .before .before .before .before in
-    met-first (passed .faults .inv .1) (omega arith) (own (clear .before .before)) (clear .enum-told .given .1) (omega arith) (c .before .do-meet .ensures) (c .if2 .taken)
+    met-first (passed .faults .inv .1) (omega arith) (c .before .before .before .loop .inv .1) (own (clear .before .before)) (clear .enum-told .given .1) (omega arith) (c .before .do-meet .ensures) (c .if2 .taken)
 
 pub first-fault-spec : {M : Type 1} → statement M
 first-fault-spec =

@@ -1,0 +1,59 @@
+-- A file and a proposal that are tested: what is refused, and what then stands in the buffer.
+use Prim.Native.Nat.{ℕ}
+use mathlib.Core.Path.{_≡_, sym, ap, _∙_}
+use mathlib.Core.List.{List}
+use native.Mathlib.Omega.{arith}
+use lib.ListN.{length, take}
+use lib.Seq.{length-take-le}
+use Rattle.rules.specs.declared.Fault.{Fault}
+use Rattle.rules.specs.declared.Fault.the-variants.{Clear, Bad}
+use Rattle.rules.specs.declared.Refusal.{Refusal}
+use Rattle.rules.specs.Tests.{proposalFault}
+use Rattle.problem.specs.File.{wordsOf}
+use Rattle.reader.specs.declared.answer.Read.{Read}
+use Rattle.reader.specs.declared.answer.Read.the-variants.{Problem, Refused}
+use Rattle.reader.specs.Answer.{refusal}
+use Rattle.reader.specs.Promise.{Opened, Decoded}
+use Rattle.proposal.specs.Accepted.{checkFault}
+use Rattle.proposal.specs.Accept.{Admitted, Tested}
+
+tested-bad : {f w e : List ℕ} {r : Read} (q : Refusal) → r ≡ Refused q → checkFault f w ≡ Bad q → Tested f w e r
+tested-bad q e h = record {
+  refuses = λ u s. h ∙ cc;
+  admits = λ n s. absurd (let z : _≡_ {A = ℕ} 0 1 = cc in omega arith);
+}
+
+-- the file is refused
+pub tested-file : (w : List ℕ) {f e : List ℕ} {r : Read} {q : Refusal} → Decoded f e r → r ≡ Refused q → Tested f w e r
+tested-file w {q = q} d h = tested-bad q h (rw (d .refuses q h))
+
+-- it is read, and y is what is wrong with the proposal
+module _ (w : List ℕ) {f e : List ℕ} {r : Read} {n : ℕ} {y : Fault} (d : Decoded f e r) (is : r ≡ Problem n) (ey : y ≡ proposalFault (take n e) w) where
+  opened : Opened f e n
+  opened = d .opens n is
+
+  found : checkFault f w ≡ y
+  found = rw (opened .clear, ← opened .front) (sym ey)
+
+  pub tested-proposal : {q : Refusal} {s : Read} → s ≡ Refused q → y ≡ Bad q → Tested f w e s
+  tested-proposal {q} s h = tested-bad q s (found ∙ h)
+
+  pub tested-clear : {s : Read} → s ≡ Problem n → y ≡ Clear → Tested f w e s
+  tested-clear s-is h = record {
+    refuses = λ q s. absurd (let z : _≡_ {A = ℕ} 0 1 = cc in omega arith);
+    admits = λ i s.
+        let i-is : n ≡ i = cc in
+        rw (← i-is) (record {
+          clear = found ∙ h;
+          within = opened .within;
+          front = opened .front;
+          accepted = record { formed = opened .formed; faultless = sym ey ∙ h };
+        });
+  }
+
+-- ---- what the calls make of it
+pub refused-is : {f w e : List ℕ} {r : Read} {q t : Refusal} → Tested f w e r → r ≡ Refused q → t ≡ refusal r → checkFault f w ≡ Bad t
+refused-is {q = q} h is t-is = h .refuses q is ∙ ap Bad (sym (t-is ∙ ap refusal is))
+
+pub admitted-length : {f w e : List ℕ} {n : ℕ} → Admitted f w e n → length (take n e) ≡ n
+admitted-length {e = e} {n = n} a = length-take-le n e (a .within)
