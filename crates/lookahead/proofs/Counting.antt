@@ -21,7 +21,8 @@ use Rattle.basics.proofs.Bits.{or-left, or-right, and-right}
 use Rattle.basics.proofs.Sums.{sum-next, sum-rises, sum-same, sum-single, sum-swap}
 use Rattle.basics.proofs.Tests.{and-true, not-both}
 use Rattle.rules.specs.Problem.{rows, messages, repeat, column, row}
-use Rattle.lookahead.specs.Cells.{Few, Stand, Apart, CoversAll, Shut}
+use Rattle.rules.specs.Tests.{Stand}
+use Rattle.lookahead.specs.Cells.{Few, Apart, CoversAll, Shut}
 use Rattle.lookahead.specs.Crowd.{among, joint, cells, demand, Need, Needs, Crowd, Crowded}
 use Rattle.lookahead.proofs.Meets.{own-placed, fault-own, not-shared}
 

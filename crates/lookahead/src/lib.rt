@@ -7,31 +7,34 @@ pub mod crowd;
 ghost use Prim.Native.Nat.{_<_};
 ghost use Rattle.rules.specs.Problem.{messages};
 ghost use Rattle.rules.specs.Parts.{Member};
-ghost use Rattle.lookahead.specs.Cells.{Few, Allows, Picked, Cautious};
+ghost use Rattle.lookahead.specs.Cells.{mostPlanned, Few, Allows, Picked, Cautious};
 ghost use Rattle.lookahead.specs.Crowd.{Needs, Crowded};
 
 // How many places message j has.
-fn places(p: &[u32], a: &[u32; 1024], j: usize) -> u32
-    requires { ⌜ Member (now p) j × (j < 16) ⌝ }
+fn places(p: &[u32], a: &[u32; cells::TABLE_WORDS], j: usize) -> u32
+    requires { ⌜ Member (now p) j × (j < mostPlanned) ⌝ }
 {
     let repeat = words::repeat_of(p, j);
     let mut n: u32 = 0;
     let mut r = 0;
     while r < repeat {
-        n += basics::ones_of(a[64 * j + r]);
+        n += basics::ones_of(a[cells::table_at(j, r)]);
         r += 1;
     }
     n
 }
 
+// More than the places of any message.
+const MANY: u32 = 4096;
+
 // A message of `left` with the fewest places, or a number that is none of a message.
-fn pick(p: &[u32], a: &[u32; 1024], left: u32) -> usize
+fn pick(p: &[u32], a: &[u32; cells::TABLE_WORDS], left: u32) -> usize
     requires { ⌜ Few (now p) ⌝ }
     ensures { λ j. ⌜ Picked (now (p .entry)) left j ⌝ }
 {
     let count = words::messages_of(p);
     let mut best = count;
-    let mut fewest: u32 = 4096;
+    let mut fewest = MANY;
     let mut j = 0;
     while j < count {
         if basics::has_bit(left, j as u32) {
@@ -47,7 +50,13 @@ fn pick(p: &[u32], a: &[u32; 1024], left: u32) -> usize
 }
 
 // Whether the messages of `left` are too many for their cells. Where message j has no place at all, that shows by itself.
-fn overfull(p: &[u32], needs: &[u32; 16], a: &[u32; 1024], left: u32, j: usize) -> bool
+fn overfull(
+    p: &[u32],
+    needs: &[u32; cells::MOST_PLANNED],
+    a: &[u32; cells::TABLE_WORDS],
+    left: u32,
+    j: usize,
+) -> bool
     requires { ⌜ Few (now p) ⌝ }
     requires { ⌜ Needs (now p) (messages (now p)) (now needs) ⌝ }
     requires { ⌜ Member (now p) j ⌝ }
@@ -63,9 +72,9 @@ fn overfull(p: &[u32], needs: &[u32; 16], a: &[u32; 1024], left: u32, j: usize) 
 // the fewest places is tried first, and at most `deep` messages one after the other.
 pub fn possible(
     p: &[u32],
-    table: &[u32; 1024],
-    needs: &[u32; 16],
-    occupied: [u32; 64],
+    table: &[u32; cells::TABLE_WORDS],
+    needs: &[u32; cells::MOST_PLANNED],
+    occupied: [u32; words::MOST_ROWS],
     left: u32,
     deep: usize,
 ) -> bool
@@ -91,7 +100,7 @@ pub fn possible(
     let repeat = words::repeat_of(p, j);
     let mut r = 0;
     while r < repeat {
-        let x = a[64 * j + r];
+        let x = a[cells::table_at(j, r)];
         let mut c = 0;
         while c < columns {
             if basics::has_bit(x, c as u32) {

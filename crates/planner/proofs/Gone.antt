@@ -1,23 +1,26 @@
 -- What the search knows at each place that it comes to, and that what it finds is the least.
-use Prim.Native.Nat.{ℕ, _+_, _*_, _<_, _≤_}
-use mathlib.Core.Path.{_≡_, sym, ap, _∙_}
-use mathlib.Core.Bool.{Bool, true, false, not}
+use Prim.Native.Nat.{ℕ, _+_, _<_, _≤_}
+use mathlib.Core.Path.{_≡_, refl, sym, ap, _∙_}
+use mathlib.Core.Bool.{Bool, true, false}
 use mathlib.Core.List.{List}
 use mathlib.Core.Logic.{_⊎_, inl, inr, ⊎-elim}
 use native.Mathlib.Nat.{eq-or-lt-of-le}
 use native.Mathlib.Omega.{arith}
 use borrow.Author.Count.{below-more}
-use lib.ListN.{length}
+use lib.ListN.{length-set}
 use Rattle.basics.specs.Bits.{Has}
-use Rattle.basics.proofs.Tests.{not-both, T-true, at-none, every-off}
-use Rattle.rules.specs.declared.Fault.the-variants.{Clear}
-use Rattle.rules.specs.declared.Refusal.the-variants.{Meeting}
-use Rattle.rules.specs.Problem.{columns, messages, repeat, column, row}
-use Rattle.rules.specs.Tests.{ownFault, meets, clear, fault}
-use Rattle.rules.proofs.Faults.{clear-both, clear-test}
+use Rattle.basics.proofs.Tests.{not-both}
+use Rattle.rules.specs.Refusal.{isClear}
+use Rattle.rules.specs.declared.Fault.{Fault}
+use Rattle.rules.specs.declared.Fault.the-variants.{Clear, Bad}
+use Rattle.rules.specs.Problem.{columns, messages, repeat, Gives, column, row}
+use Rattle.rules.specs.Tests.{ownFault, meets, meetingFault, fault, Stand}
+use Rattle.rules.proofs.Faults.{clear-both}
+use Rattle.rules.proofs.Meaning.{clear-unmet, unmet-clear}
 use Rattle.rules.proofs.Prefix.{same-fault}
-use Rattle.lookahead.specs.Cells.{Stand, Allowed}
+use Rattle.lookahead.specs.Cells.{Allowed}
 use Rattle.lookahead.proofs.Meets.{own-placed, fault-own}
+use Rattle.lookahead.proofs.Covering.{clear-yes, clear-no}
 use Rattle.planner.specs.Order.{Agree, Before}
 use Rattle.planner.specs.Search.{put, Best, Nowhere}
 use Rattle.planner.proofs.Order.{places, agree-refl, agree-sym, agree-trans, agree-less, put-keeps, put-column, put-row, put-agree}
@@ -27,24 +30,26 @@ pub fault-agree : (p : List ℕ) {v w : List ℕ} (j : ℕ) → Agree v w (j + 1
 fault-agree p {v} {w} j g = same-fault p v w j λ i l. record { column-is = g .columns-same i (omega arith); row-is = g .rows-same i (omega arith) }
 
 -- ---- whether message j meets an earlier one
-pub clear-off : (p w : List ℕ) (i j : ℕ) → i < j → meets p w i j ≡ true → false ≡ clear p w j
-unfolding clear
-clear-off p w i j l e = sym (every-off j i (λ i. not (meets p w i j)) l (rw e))
+pub met-shut : (p w : List ℕ) (i j : ℕ) → i < j → meets p w i j ≡ true → false ≡ isClear (meetingFault p w j)
+met-shut p w i j l e = by (meetingFault p w j) refl
+  where
+    by : (f : Fault) → meetingFault p w j ≡ f → false ≡ isClear f
+    by Clear q = not-both e (clear-unmet p w j q i l)
+    by (Bad q) _ = refl
 
-pub clear-on : (p w : List ℕ) (j : ℕ) → ((i : ℕ) → i < j → meets p w i j ≡ false) → true ≡ clear p w j
-unfolding clear
-clear-on p w j h = sym (T-true _ (at-none j (λ i. meets p w i j) h))
+pub unmet-open : (p w : List ℕ) (j : ℕ) → ((i : ℕ) → i < j → meets p w i j ≡ false) → true ≡ isClear (meetingFault p w j)
+unmet-open p w j h = sym (ap isClear (unmet-clear p w j h))
 
 -- ---- message k at column c and base row r
 module _ (p v : List ℕ) (k c r : ℕ) where
-  put-own : 2 * k + 1 < length v → fault p (put v k c r) k ≡ Clear → ownFault p k c r ≡ Clear
+  put-own : Gives v k → fault p (put v k c r) k ≡ Clear → ownFault p k c r ≡ Clear
   put-own room e = rw (put-column v k c r room, put-row v k c r room) at (fault-own p (put v k c r) k e)
 
-  put-clear : fault p (put v k c r) k ≡ Clear → clear p (put v k c r) k ≡ true
+  put-clear : fault p (put v k c r) k ≡ Clear → meetingFault p (put v k c r) k ≡ Clear
   unfolding fault
-  put-clear e = clear-test (clear p (put v k c r) k) (Meeting k) (clear-both (ownFault p k (column (put v k c r) k) (row (put v k c r) k)) _ e .1)
+  put-clear e = clear-both (ownFault p k (column (put v k c r) k) (row (put v k c r) k)) _ e .1
 
-  put-fault : 2 * k + 1 < length v → ownFault p k c r ≡ Clear → clear p (put v k c r) k ≡ true → fault p (put v k c r) k ≡ Clear
+  put-fault : Gives v k → ownFault p k c r ≡ Clear → meetingFault p (put v k c r) k ≡ Clear → fault p (put v k c r) k ≡ Clear
   unfolding fault
   put-fault room e t = rw (put-column v k c r room, put-row v k c r room, e, t)
 
@@ -54,9 +59,9 @@ module _ (p v : List ℕ) (k c r : ℕ) where
   }
 
   -- where it stands by itself and meets no earlier message
-  pub put-stands : {w : List ℕ} {b : Bool} → 2 * k + 1 < length v → w ≡ put v k c r → Stand p k v → ownFault p k c r ≡ Clear → b ≡ clear p w k
-      → b ≡ true → Stand p (k + 1) w
-  put-stands room e S o h t = rw e (put-stood S (put-fault room o (ap (λ (x : List ℕ). clear p x k) (sym e) ∙ sym h ∙ t)))
+  pub put-stands : {w : List ℕ} {x : ℕ} {b : Bool} → Gives v k → w ≡ put v k c r → Stand p k v → Allowed p k r x → Has x c
+      → b ≡ isClear (meetingFault p w k) → b ≡ true → Stand p (k + 1) w
+  put-stands {w} room e S A h q t = rw e (put-stood S (put-fault room (A .only c h) (rw e at (clear-yes (meetingFault p w k) q t))))
 
 -- ---- nothing without a fault that begins with v's first k has message k before column c and base row r
 pub record Gone (p : List ℕ) (k : ℕ) (v : List ℕ) (c r : ℕ) : Type 0 where
@@ -75,20 +80,20 @@ module _ (p : List ℕ) (k : ℕ) (v : List ℕ) where
   }
 
   -- a place with a fault
-  pub gone-shut : (c r : ℕ) → k < messages p → 2 * k + 1 < length v → (fault p (put v k c r) k ≡ Clear → ⊥) → Gone p k v c r → Gone p k v c (r + 1)
+  pub gone-shut : (c r : ℕ) → k < messages p → Gives v k → (fault p (put v k c r) k ≡ Clear → ⊥) → Gone p k v c r → Gone p k v c (r + 1)
   gone-shut c r h room f G = next c r G λ w S g ec er. f (fault-agree p k (put-agree v k c r room g ec er) ∙ S .each k h)
 
   -- a place where message k may not stand by itself
-  pub gone-closed : (c r : ℕ) {x : ℕ} → k < messages p → 2 * k + 1 < length v → Allowed p k r x → (Has x c → ⊥) → Gone p k v c r → Gone p k v c (r + 1)
+  pub gone-closed : (c r : ℕ) {x : ℕ} → k < messages p → Gives v k → Allowed p k r x → (Has x c → ⊥) → Gone p k v c r → Gone p k v c (r + 1)
   gone-closed c r h room A n = gone-shut c r h room λ f. n (A .holds c (put-own p v k c r room f))
 
   -- a place where it meets an earlier message
-  pub gone-met : (c r : ℕ) {w : List ℕ} {b : Bool} → k < messages p → 2 * k + 1 < length v → w ≡ put v k c r → b ≡ clear p w k → b ≡ false
+  pub gone-met : (c r : ℕ) {w : List ℕ} {b : Bool} → k < messages p → Gives v k → w ≡ put v k c r → b ≡ isClear (meetingFault p w k) → b ≡ false
       → Gone p k v c r → Gone p k v c (r + 1)
-  gone-met c r h room e q n = gone-shut c r h room λ f. not-both (put-clear p v k c r f) (ap (λ (x : List ℕ). clear p x k) (sym e) ∙ sym q ∙ n)
+  gone-met c r {w} h room e q n = gone-shut c r h room λ f. clear-no (meetingFault p w k) q n (rw e (put-clear p v k c r f))
 
   -- a place behind which nothing was found
-  pub gone-tried : (c r : ℕ) {w : List ℕ} → 2 * k + 1 < length v → w ≡ put v k c r → Nowhere p (k + 1) w → Gone p k v c r → Gone p k v c (r + 1)
+  pub gone-tried : (c r : ℕ) {w : List ℕ} → Gives v k → w ≡ put v k c r → Nowhere p (k + 1) w → Gone p k v c r → Gone p k v c (r + 1)
   gone-tried c r {w} room e N G = next c r G λ u S g ec er. N .none u S (rw e (put-agree v k c r room g ec er))
 
   -- a column's last place
@@ -109,13 +114,14 @@ module _ (p : List ℕ) (k : ℕ) (v : List ℕ) where
   }
 
   -- the least behind the first place that is not gone is the least of all
-  pub found : (c r : ℕ) {w u : List ℕ} → k < messages p → 2 * k + 1 < length v → w ≡ put v k c r → Best p (k + 1) w u → Gone p k v c r → Best p k v u
+  pub found : (c r : ℕ) {w u : List ℕ} → k < messages p → Gives v k → w ≡ put v k c r → Best p (k + 1) w u → Gone p k v c r → Best p k v u
   found c r {w} {u} h room e F G =
       let B : Best p (k + 1) (put v k c r) u = rw e at F in
       let kept = agree-trans (put-keeps v k c r) (agree-less k (omega arith) (B .begins)) in
       let ec : column u k ≡ c = sym (B .begins .columns-same k (omega arith)) ∙ put-column v k c r room in
       let er : row u k ≡ r = sym (B .begins .rows-same k (omega arith)) ∙ put-row v k c r room in
       record {
+        long = B .long ∙ simp length-set refl;
         begins = kept;
         stands = B .stands;
         least = λ w S g. ⊎-elim
@@ -128,4 +134,9 @@ module _ (p : List ℕ) (k : ℕ) (v : List ℕ) where
 
   -- all messages are placed
   pub whole : messages p ≤ k → Stand p k v → Best p k v v
-  whole h S = record { begins = agree-refl v k; stands = record { each = λ j l. S .each j (omega arith) }; least = λ w T g. inl (agree-less (messages p) h g) }
+  whole h S = record {
+    long = refl;
+    begins = agree-refl v k;
+    stands = record { each = λ j l. S .each j (omega arith) };
+    least = λ w T g. inl (agree-less (messages p) h g);
+  }

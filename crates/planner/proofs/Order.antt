@@ -8,9 +8,9 @@ use native.Mathlib.Omega.{arith}
 use borrow.Author.Count.{below-more}
 use lib.ListN.{length, getD, set, length-set}
 use lib.Seq.{getD-set-same, getD-set-other, ext-getD}
-use Rattle.rules.specs.Problem.{column, row}
+use Rattle.rules.specs.Problem.{Gives, column, row}
 use Rattle.lookahead.proofs.Meets.{below-or}
-use Rattle.planner.specs.Order.{Agree, Before, NotAfter}
+use Rattle.planner.specs.Order.{Agree, Before, Smaller, NotAfter}
 use Rattle.planner.specs.Search.{put}
 
 -- ---- places
@@ -33,10 +33,6 @@ before-asym a b c r (inl x) (inl y) = omega arith
 before-asym a b c r (inl x) (inr y) = omega arith
 before-asym a b c r (inr x) (inl y) = omega arith
 before-asym a b c r (inr x) (inr y) = omega arith
-
-not-before : (a b c r : ℕ) → a ≡ c → b ≡ r → Before a b c r → ⊥
-not-before a b c r p q (inl x) = omega arith
-not-before a b c r p q (inr x) = omega arith
 
 -- ---- agreement
 pub agree-refl : (v : List ℕ) (k : ℕ) → Agree v v k
@@ -72,19 +68,25 @@ agree-eq n v w lv lw g = ext-getD 0 v w (lv ∙ sym lw) λ i l.
     (below-or (i % 2) 1)
 
 -- ---- the order
+-- proposals that agree on k messages differ first at a later one
+settled : {n : ℕ} {v w : List ℕ} {k : ℕ} (f : Smaller n v w) → Agree v w k → k ≤ f .message
+settled {k = k} f g =
+    ⊎-elim
+    (λ l.
+    let c = g .columns-same (f .message) l in
+    let r = g .rows-same (f .message) l in
+    absurd (elim (f .before) [ inl x ↦ omega arith | inr x ↦ omega arith ]))
+    (λ l. l)
+    (below-or (f .message) k)
+
 pub antisym : (n : ℕ) (v w : List ℕ) → NotAfter n v w → NotAfter n w v → Agree v w n
 antisym n v w (inl a) y = a
 antisym n v w (inr f) (inl b) = agree-sym b
 antisym n v w (inr f) (inr g) =
-    let j = f .message in
-    let i = g .message in
-    absurd (⊎-elim
-    (λ l. not-before _ _ _ _ (sym (f .agree .columns-same i l)) (sym (f .agree .rows-same i l)) (g .before))
-    (λ l. ⊎-elim
-    (λ e. before-asym _ _ _ _ (f .before) (rw e (g .before)))
-    (λ m. not-before _ _ _ _ (sym (g .agree .columns-same j m)) (sym (g .agree .rows-same j m)) (f .before))
-    (eq-or-lt-of-le l))
-    (below-or i j))
+    let a = settled f (agree-sym (g .agree)) in
+    let b = settled g (agree-sym (f .agree)) in
+    let e : f .message ≡ g .message = omega arith in
+    absurd (before-asym _ _ _ _ (f .before) (rw e (g .before)))
 
 -- it goes by the placements
 pub not-after-agree : {v w : List ℕ} (x : List ℕ) {n : ℕ} → Agree v w n → NotAfter n v x → NotAfter n w x
@@ -111,7 +113,7 @@ module _ (v : List ℕ) (k c r : ℕ) where
     rows-same = λ j l. put-other (2 * j + 1) (omega arith);
   }
 
-  module _ (room : 2 * k + 1 < length v) where
+  module _ (room : Gives v k) where
     pub put-column : column (put v k c r) k ≡ c
     put-column =
         getD-set-other (set v (2 * k) c) (2 * k + 1) (2 * k) r 0 (omega arith)

@@ -1,25 +1,25 @@
 -- Where the look-ahead refuses, nothing begins with the placements made so far.
-use Prim.Native.Nat.{ℕ, _+_, _*_, _%_, _<_, _≤_}
+use Prim.Native.Nat.{ℕ, _+_, _%_, _≤_}
 use mathlib.Core.Path.{_≡_, sym, ap, _∙_}
 use mathlib.Core.Bool.{Bool, false}
 use mathlib.Core.List.{List}
 use mathlib.Core.Logic.{⊎-elim}
 use native.Mathlib.Omega.{arith}
-use lib.ListN.{length, replicate}
+use lib.ListN.{replicate}
 use Rattle.basics.specs.Bits.{Joined}
-use Rattle.rules.specs.Problem.{messages, repeat, column}
+use Rattle.rules.specs.Problem.{mostRows, messages, repeat, Gives, column}
 use Rattle.lookahead.specs.Cells.{Few, Occupied, Cautious}
 use Rattle.lookahead.proofs.Meets.{not-shared}
 use Rattle.lookahead.proofs.Covering.{has-none, zeros-none}
-use Rattle.planner.specs.Search.{put, Filled, From, Nowhere}
+use Rattle.planner.specs.Search.{put, Owners, From, Nowhere}
 use Rattle.planner.proofs.Order.{put-keeps, put-column, put-row}
 
-pub filled-none : (p v : List ℕ) → Filled p 0 v (replicate 64 0)
-filled-none p v = record { owner = λ i d h. absurd (zeros-none 64 i d h) }
+pub owners-none : (p v : List ℕ) → Owners p 0 v (replicate mostRows 0)
+owners-none p v = record { owner = λ i d h. absurd (zeros-none mostRows i d h) }
 
-pub filled-more : {p v w o o′ : List ℕ} (k c r : ℕ) {s : ℕ} → 2 * k + 1 < length v → w ≡ put v k c r → s ≡ repeat p k → Filled p k v o
-    → Occupied o s c r o′ → Filled p (k + 1) w o′
-filled-more {p} {v} k c r room e q F O = rw e record {
+pub owners-more : {p v w o o′ : List ℕ} (k c r : ℕ) {s : ℕ} → Gives v k → w ≡ put v k c r → s ≡ repeat p k → Owners p k v o
+    → Occupied o s c r o′ → Owners p (k + 1) w o′
+owners-more {p} {v} k c r room e q F O = rw e record {
   owner = λ i d h. ⊎-elim
       (λ g.
       let own = F .owner i d g in
@@ -46,7 +46,7 @@ pub from-more : {k j l l′ : ℕ} → k ≤ j → From k l → Joined l j l′ 
 from-more h F J = record { late = λ i g. ⊎-elim (λ e. rw e h) (λ q. F .late i q) (J .only i g) }
 
 -- the cells of the messages placed are not those of a message still unplaced, in anything without a fault
-pub no-room : {p v o : List ℕ} {k l : ℕ} {b : Bool} → Few p → k ≤ messages p → Filled p k v o → From k l → Cautious p o l b → b ≡ false → Nowhere p k v
+pub no-room : {p v o : List ℕ} {k l : ℕ} {b : Bool} → Few p → k ≤ messages p → Owners p k v o → From k l → Cautious p o l b → b ≡ false → Nowhere p k v
 no-room {p} {v} {o} {k} {l} few lk F L C e = record {
   none = λ w S g. C .refuses e .none w S (record {
     free = λ j lj hl. record {

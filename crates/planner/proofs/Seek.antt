@@ -1,5 +1,5 @@
 -- The search as a function to be computed, shown to find the least plan or that there is none, so that a worked case is proved by running it.
-use Prim.Native.Nat.{ℕ, zero, suc, _+_, _*_, _<_, _≤_}
+use Prim.Native.Nat.{ℕ, zero, suc, _+_, _<_, _≤_}
 use mathlib.Core.Path.{_≡_, refl, subst}
 use mathlib.Core.List.{List}
 use mathlib.Core.Option.{Option, some, none}
@@ -9,10 +9,9 @@ use lib.ListN.{length, replicate, length-set, length-replicate}
 use lib.Seq.{take-all}
 use Rattle.rules.specs.declared.Fault.{Fault}
 use Rattle.rules.specs.declared.Fault.the-variants.{Clear, Bad}
-use Rattle.rules.specs.Problem.{columns, messages, repeat, WellFormed}
-use Rattle.rules.specs.Tests.{fault}
+use Rattle.rules.specs.Problem.{columns, messages, repeat, proposalWords, Gives, WellFormed}
+use Rattle.rules.specs.Tests.{fault, Stand}
 use Rattle.rules.proofs.Faults.{bad-not-clear}
-use Rattle.lookahead.specs.Cells.{Stand}
 use Rattle.planner.specs.Least.{Plan, Least}
 use Rattle.planner.specs.Search.{put, Best, Nowhere}
 use Rattle.planner.proofs.Gone.{Gone, gone-start, gone-shut, gone-tried, gone-column, gone-all, found, whole, put-stood}
@@ -38,7 +37,7 @@ seek p (suc m) k v = scan-columns (attempt (λ w. seek p m (k + 1) w) p v k) (re
 
 -- and of all
 abbrev pub run : List ℕ → Option (List ℕ)
-run p = seek p (messages p) 0 (replicate (2 * messages p) 0)
+run p = seek p (messages p) 0 (replicate (proposalWords p) 0)
 
 -- ---- what a scan up to column c and base row r tells: the least of all, or that nothing without a fault is before
 abbrev Scanned : List ℕ → ℕ → List ℕ → ℕ → ℕ → Option (List ℕ) → Type 0
@@ -75,7 +74,7 @@ module _ (p : List ℕ) (k : ℕ) (v : List ℕ) where
   finish (some u) c h e B = B
   finish none c h e G = gone-all p k v c h e G
 
-  attempt-right : (f : List ℕ → Option (List ℕ)) → k < messages p → 2 * k + 1 < length v
+  attempt-right : (f : List ℕ → Option (List ℕ)) → k < messages p → Gives v k
       → ((c r : ℕ) → fault p (put v k c r) k ≡ Clear → Sought p (k + 1) (put v k c r) (f (put v k c r)))
       → (c r : ℕ) → Gone p k v c r → Scanned p k v c (r + 1) (attempt f p v k c r)
   attempt-right f h room behind c r G = go (fault p (put v k c r) k) refl
@@ -88,7 +87,7 @@ module _ (p : List ℕ) (k : ℕ) (v : List ℕ) where
       go Clear e = deep (f (put v k c r)) (behind c r e)
       go (Bad q) e = gone-shut p k v c r h room (λ z. bad-not-clear z e) G
 
-seek-right : (p : List ℕ) (m k : ℕ) (v : List ℕ) → k + m ≡ messages p → 2 * messages p ≤ length v → Stand p k v → Sought p k v (seek p m k v)
+seek-right : (p : List ℕ) (m k : ℕ) (v : List ℕ) → k + m ≡ messages p → proposalWords p ≤ length v → Stand p k v → Sought p k v (seek p m k v)
 seek-right p zero k v e room S = whole p k v (omega arith) S
 seek-right p (suc m) k v e room S =
     finish p k v (seek p (suc m) k v) (0 + columns p) (omega arith) (omega arith)
@@ -100,17 +99,17 @@ seek-right p (suc m) k v e room S =
     (omega arith)
     (gone-start p k v))
 
-run-right : (p : List ℕ) → Sought p 0 (replicate (2 * messages p) 0) (run p)
+run-right : (p : List ℕ) → Sought p 0 (replicate (proposalWords p) 0) (run p)
 run-right p = seek-right p (messages p) 0 _ (omega arith) (simp length-replicate (omega arith)) (record { each = λ j l. absurd (omega arith) })
 
 -- ---- the planner's answer, by running it
-pub run-least : (p w : List ℕ) → WellFormed p → run p ≡ some w → length w ≡ 2 * messages p → Least p w
+pub run-least : (p w : List ℕ) → WellFormed p → run p ≡ some w → length w ≡ proposalWords p → Least p w
 run-least p w wf e l =
-    let z : List ℕ = replicate (2 * messages p) 0 in
-    subst (λ (x : List ℕ). Least p x) (take-all (2 * messages p) w (omega arith))
-    (least-plan wf z w (omega arith) (subst (λ (o : Option (List ℕ)). Sought p 0 z o) e (run-right p)))
+    let z : List ℕ = replicate (proposalWords p) 0 in
+    subst (λ (x : List ℕ). Least p x) (take-all (proposalWords p) w (omega arith))
+    (least-plan wf z w (simp length-replicate (omega arith)) (subst (λ (o : Option (List ℕ)). Sought p 0 z o) e (run-right p)))
 
 pub run-none : (p : List ℕ) → WellFormed p → run p ≡ none → (w : List ℕ) → Plan p w → ⊥
 run-none p wf e =
-    let z : List ℕ = replicate (2 * messages p) 0 in
+    let z : List ℕ = replicate (proposalWords p) 0 in
     no-plan wf {z = z} (subst (λ (o : Option (List ℕ)). Sought p 0 z o) e (run-right p))

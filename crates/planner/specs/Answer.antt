@@ -1,16 +1,13 @@
--- The paper's number and place for each answer of the planner, and how many words it wrote.
+-- What each answer of the planner is in the paper's terms, and how many words it wrote.
 use Prim.Native.Nat.{ℕ}
-use Rattle.rules.specs.Refusal.{number, place}
+use Rattle.rules.specs.declared.Paper.{Paper}
+use Rattle.rules.specs.Paper.{done, refused}
 use Rattle.planner.specs.declared.answer.Planned.{Planned}
 use Rattle.planner.specs.declared.answer.Planned.the-variants.{Proposal, Refused}
 
-abbrev pub numberOf : Planned → ℕ
-numberOf (Proposal n) = 0
-numberOf (Refused q) = number q
-
-abbrev pub placeOf : Planned → ℕ
-placeOf (Proposal n) = 0
-placeOf (Refused q) = place q
+abbrev pub paper : Planned → Paper
+paper (Proposal n) = done
+paper (Refused q) = refused q
 
 abbrev pub countOf : Planned → ℕ
 countOf (Proposal n) = n

@@ -2,13 +2,18 @@
 use Prim.Native.Nat.{ℕ, _+_, _*_, _%_, _<_, _≤_}
 use mathlib.Core.Path.{_≡_}
 use mathlib.Core.Bool.{Bool, true, false}
-use mathlib.Core.List.{List, _++_}
-use lib.ListN.{length, getD, set, take, drop}
+use mathlib.Core.List.{List}
+use lib.ListN.{length, getD, set}
 use Rattle.basics.specs.Bits.{Has}
 use Rattle.rules.specs.Problem.{messages, repeat, column, row}
-use Rattle.lookahead.specs.Cells.{Few, Stand, Allows}
+use Rattle.rules.specs.Tests.{Stand}
+use Rattle.lookahead.specs.Cells.{mostPlanned, Few, Allows}
 use Rattle.lookahead.specs.Crowd.{Needs}
 use Rattle.planner.specs.Order.{Agree, NotAfter}
+
+-- the words of a plan: as many as the longest proposal that is planned has
+abbrev pub planWords : ℕ
+planWords = 2 * mostPlanned
 
 -- v with message k at column c and base row r
 abbrev pub put : List ℕ → ℕ → ℕ → ℕ → List ℕ
@@ -22,7 +27,7 @@ pub record Owned (p : List ℕ) (k : ℕ) (v : List ℕ) (i d : ℕ) : Type 0 wh
   pub row-is : i % repeat p by ≡ row v by
 
 -- and so is each cell of o
-pub record Filled (p : List ℕ) (k : ℕ) (v o : List ℕ) : Type 0 where
+pub record Owners (p : List ℕ) (k : ℕ) (v o : List ℕ) : Type 0 where
   pub owner : (i d : ℕ) → Has (getD o i 0) d → Owned p k v i d
 
 -- the search comes to message k: by the table t of places and the table n of needs it has placed the messages before, as in v, on the cells o
@@ -32,14 +37,15 @@ pub record Begun (p t n : List ℕ) (k : ℕ) (v o : List ℕ) : Type 0 where
   pub needs : Needs p (messages p) n
   pub within : k ≤ messages p
   pub stands : Stand p k v
-  pub filled : Filled p k v o
+  pub owners : Owners p k v o
 
 -- the set l has no message before k
 pub record From (k l : ℕ) : Type 0 where
   pub late : (j : ℕ) → Has l j → k ≤ j
 
--- u is the least proposal without a fault that begins with v's first k placements
+-- u, as long as v, is the least proposal without a fault that begins with v's first k placements
 pub record Best (p : List ℕ) (k : ℕ) (v u : List ℕ) : Type 0 where
+  pub long : length u ≡ length v
   pub begins : Agree v u k
   pub stands : Stand p (messages p) u
   pub least : (w : List ℕ) → Stand p (messages p) w → Agree v w k → NotAfter (messages p) u w
@@ -51,8 +57,3 @@ pub record Nowhere (p : List ℕ) (k : ℕ) (v : List ℕ) : Type 0 where
 abbrev pub Searched : List ℕ → ℕ → List ℕ → Bool → List ℕ → Type 0
 Searched p k v true u = Best p k v u
 Searched p k v false u = Nowhere p k v
-
--- the first n words of a plan v are put in front of what a buffer d held, which then is e
-pub record Stored (v : List ℕ) (n : ℕ) (d e : List ℕ) : Type 0 where
-  pub long : n ≤ length v
-  pub buffer-is : e ≡ take n v ++ drop n d

@@ -9,23 +9,27 @@ use rules::Refusal;
 use rules::placing;
 use rules::words;
 ghost use mathlib.Core.Path.{_≡_};
-ghost use Prim.Native.Nat.{_+_, _*_, _<_, _≤_};
-ghost use lib.ListN.{length};
-ghost use Rattle.rules.specs.Problem.{WellFormed};
+ghost use Prim.Native.Nat.{_<_, _≤_};
+ghost use Rattle.rules.specs.Refusal.{isClear};
+ghost use Rattle.rules.specs.Problem.{mostRows, mostColumns, WellFormed, Gives};
 ghost use Rattle.rules.specs.Parts.{Member};
-ghost use Rattle.rules.specs.Tests.{clear};
-ghost use Rattle.planner.specs.Search.{put, From, Begun, Searched, Stored};
+ghost use Rattle.rules.specs.Tests.{meetingFault};
+ghost use Rattle.lookahead.specs.Cells.{mostPlanned};
+ghost use Rattle.planner.specs.Search.{put, From, Begun, Searched};
 ghost use Rattle.planner.specs.Promise.{unready, Answered, Planning};
+
+// The words of a plan: as many as the longest proposal that is planned has.
+pub const PLAN_WORDS: usize = 2 * cells::MOST_PLANNED;
 
 // What a search found, if it found something.
 struct Found {
     found: bool,
-    plan: [u32; 32],
+    plan: [u32; PLAN_WORDS],
 }
 
 // The plan, with message j at column c and base row r.
-fn placed(plan: [u32; 32], j: usize, c: usize, r: usize) -> [u32; 32]
-    requires { ⌜ (j < 16) × (c < 32) × (r < 64) ⌝ }
+fn placed(plan: [u32; PLAN_WORDS], j: usize, c: usize, r: usize) -> [u32; PLAN_WORDS]
+    requires { ⌜ (j < mostPlanned) × (c < mostColumns) × (r < mostRows) ⌝ }
     ensures { λ next. ⌜ next ≡ put plan j c r ⌝ }
 {
     let mut next = plan;
@@ -36,8 +40,8 @@ fn placed(plan: [u32; 32], j: usize, c: usize, r: usize) -> [u32; 32]
 
 // Whether message j meets no earlier message.
 fn is_clear(p: &[u32], w: &[u32], j: usize) -> bool
-    requires { ⌜ Member (now p) j × (2 * j + 1 < length (now w)) ⌝ }
-    ensures { λ b. ⌜ b ≡ clear (now (p .entry)) (now (w .entry)) j ⌝ }
+    requires { ⌜ Member (now p) j × Gives (now w) j ⌝ }
+    ensures { λ b. ⌜ b ≡ isClear (meetingFault (now (p .entry)) (now (w .entry)) j) ⌝ }
 {
     let mut i = 0;
     while i < j {
@@ -51,7 +55,7 @@ fn is_clear(p: &[u32], w: &[u32], j: usize) -> bool
 
 // The messages from `at` on, as a set.
 fn unplaced(at: usize, count: usize) -> u32
-    requires { ⌜ count ≤ 16 ⌝ }
+    requires { ⌜ count ≤ mostPlanned ⌝ }
     ensures { λ l. ⌜ From at l ⌝ }
 {
     let mut left: u32 = 0;
@@ -67,10 +71,10 @@ fn unplaced(at: usize, count: usize) -> u32
 // messages still unplaced, whose number falls by one at each call.
 fn search(
     p: &[u32],
-    table: &[u32; 1024],
-    needs: &[u32; 16],
-    plan: [u32; 32],
-    occupied: [u32; 64],
+    table: &[u32; cells::TABLE_WORDS],
+    needs: &[u32; cells::MOST_PLANNED],
+    plan: [u32; PLAN_WORDS],
+    occupied: [u32; words::MOST_ROWS],
     at: usize,
 ) -> Found
     requires { ⌜ Begun (now p) (now table) (now needs) at plan occupied ⌝ }
@@ -91,7 +95,7 @@ fn search(
     while c < columns {
         let mut r = 0;
         while r < repeat {
-            if basics::has_bit(table[64 * at + r], c as u32) {
+            if basics::has_bit(table[cells::table_at(at, r)], c as u32) {
                 let next = placed(plan, at, c, r);
                 if is_clear(p, &next, at) {
                     let taken = cells::occupy(occupied, rows, repeat, c, r);
@@ -108,47 +112,37 @@ fn search(
     Found { found: false, plan }
 }
 
-// Writes the first n words of a plan to the front of the buffer.
-fn store(plan: [u32; 32], proposal: &mut [u32], n: usize)
-    requires { ⌜ (n ≤ 32) × (n ≤ length (now proposal)) ⌝ }
-    ensures { λ _. ⌜ Stored plan n (now (proposal .entry)) (now (proposal .exit)) ⌝ }
-{
-    let mut i = 0;
-    while i < n {
-        proposal[i] = plan[i];
-        i += 1;
-    }
-}
-
 // Writes the least acceptable proposal of a problem, or says why not.
 fn plan_words(p: &[u32], proposal: &mut [u32]) -> Planned
     requires { ⌜ WellFormed (now p) ⌝ }
     ensures { λ r. ⌜ Answered (unready (now (p .entry)) (now (proposal .entry))) (now (p .entry)) (now (proposal .entry)) (now (proposal .exit)) r ⌝ }
 {
     let count = words::messages_of(p);
-    if 16 < count {
+    if cells::MOST_PLANNED < count {
         return Planned::Refused(Refusal::TooMany);
     }
-    if proposal.len() < 2 * count {
+    let n = words::proposal_words(p);
+    if proposal.len() < n {
         return Planned::Refused(Refusal::Room);
     }
     let table = cells::allowed(p);
     let needs = crowd::needs_of(p);
-    let got = search(p, &table, &needs, [0u32; 32], [0u32; 64], 0);
+    let unset = [0u32; PLAN_WORDS];
+    let free = [0u32; words::MOST_ROWS];
+    let got = search(p, &table, &needs, unset, free, 0);
     if !got.found {
         return Planned::Refused(Refusal::NoPlan);
     }
     let plan = got.plan;
-    store(plan, proposal, 2 * count);
-    Planned::Proposal(2 * count)
+    basics::copy_words(&plan[..n], proposal);
+    Planned::Proposal(n)
 }
 
 // Plans the problem of a file: writes the least acceptable proposal into the caller's buffer, or says why not.
 pub fn plan(file: &[u8], proposal: &mut [u32]) -> Planned
     ensures { λ r. ⌜ Planning (now (file .entry)) (now (proposal .entry)) (now (proposal .exit)) r ⌝ }
 {
-    // 1 and not 0: filled in place, without a call of memset
-    let mut words = [1u32; 519];
+    let mut words = [basics::FILL; words::MOST_WORDS];
     let got = reader::decode(file, &mut words);
     let Read::Problem(n) = got else {
         return Planned::Refused(reader::answer::refusal_of(got));

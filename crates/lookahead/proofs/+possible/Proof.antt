@@ -19,6 +19,7 @@ use Rattle.basics.proofs.clear_bit.Reads as clear-bit-reads
 use Rattle.basics.proofs.has_bit.Reads as has-bit-reads
 use Rattle.lookahead.proofs.cells.available.Reads as available-reads
 use Rattle.lookahead.proofs.cells.occupy.Reads as occupy-reads
+use Rattle.lookahead.proofs.cells.table_at.Reads as table-at-reads
 use Rattle.lookahead.proofs.overfull.Reads as overfull-reads
 use Rattle.lookahead.proofs.pick.Reads as pick-reads
 use Rattle.rules.proofs.words.columns_of.Reads as columns-of-reads
@@ -68,6 +69,8 @@ possible-claims t = (
   columns-of-reads.Learnt,
   repeat-of-reads.Asked,
   repeat-of-reads.Learnt,
+  table-at-reads.Asked,
+  table-at-reads.Learnt,
   has-bit-reads.Asked,
   has-bit-reads.Learnt,
   occupy-reads.Asked,
@@ -120,7 +123,7 @@ possible-loop-holds t c = passed-start _ _ _ _
 
 possible-possible-requires : possible-asks possible-lts.Need-possible-requires
 possible-possible-requires t c κs =
-    let looked = c .before .before .before .before .before .before .before .before .before .before .before .before .before .before .before .before .before .before .before .before in
+    let looked = c .before .before .before .before .before .before .before .before .before .before .before .before .before .before .before .before .before .before .before .before .before in
     let start = looked .before .before in
     (omega (arith, start .pre .0, looked .if1 .left), start .pre .1)
 
@@ -129,7 +132,8 @@ possible-returns-4 t c = cautious-yes _ _ _
 
 possible-loop2-again : possible-asks possible-lts.Need-loop2-again
 possible-loop2-again t c =
-    let outer = c .before .before .before .before .before in
+    let place = c .before .before .before .before in
+    let outer = place .before .before in
     let asked = outer .before .before .before .before .before .before .before .before in
     let chosen = asked .before .before in
     let start = chosen .before .before .before .before .before .before in
@@ -140,12 +144,12 @@ possible-loop2-again t c =
     let inv = c .before .before .before .loop2 .inv in
     let below : j < messages (start .args .p .now) = omega (arith, asked .if2 .left, asked .before .messages-of .ensures .0) in
     let inside = chosen .pick .ensures .inside below in
-    let low : r < repeat (start .args .p .now) j = omega (arith, times .is, c .before .before .before .before .loop-test .taken) in
+    let low : r < repeat (start .args .p .now) j = omega (arith, times .is, place .before .loop-test .taken) in
     let most = repeat-rows (member (few .formed) below) in
     ⊎-elim
     (λ w. passed-tried _ _ _ _ few below _ _ (times .is) (w .1 .ensures) (outer .before .before .before .before .clear-bit .ensures)
     (w .2 .ensures .refuses (w .3 .left)) inv)
-    (λ w. passed-closed _ _ _ _ _ _ below inside (chosen .before .before .available .ensures .each j r below inside (omega arith))
+    (λ w. passed-closed _ _ _ _ _ _ below inside (rw (place .table-at .ensures .0) (chosen .before .before .available .ensures .each j r below inside (omega arith)))
     low (eqb-false _ _ (sym (c .before .has-bit .ensures) ∙ w .left)) inv)
     (c .if4 .came)
 
@@ -171,8 +175,7 @@ pub +possible-spec : {M : Type 1} → statement M
     (λ c κs. search needs)
     (possible-repeat-of-requires t)
     (possible-loop-holds t)
-    (λ c. search needs)
-    (λ c. search needs)
+    (λ c κs. search needs)
     (λ c. search needs)
     (λ c. search needs)
     (λ c. search needs)

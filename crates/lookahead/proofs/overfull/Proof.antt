@@ -1,4 +1,4 @@
--- The answer of the count, or none.
+-- An answer of false says nothing, and else it is that of the count.
 use native.Mathlib.Omega.{arith}
 use borrow.Author.Needs.{needs}
 use Rattle.lookahead.proofs.Counting.{crowded-no}

@@ -1,6 +1,6 @@
 -- What the loops know: nothing without a fault that begins with the placements made has message `at` at a place passed. The first place behind which the call
 -- finds something is that of the least. The number of messages still unplaced falls with each call.
-use Prim.Native.Nat.{ℕ, _*_, _+_, _-_, _<_}
+use Prim.Native.Nat.{ℕ, _-_, _<_}
 use mathlib.Core.Path.{_≡_, sym, ap, _∙_}
 use mathlib.Core.Bool.{true}
 use mathlib.Core.Logic.{⊎-elim}
@@ -12,15 +12,17 @@ use lib.ListN.{length, length-set}
 use borrow.Author.Needs.{needs}
 use borrow.Fn.Kinds.{In, Out}
 use borrow.Fn.PlainCycle.{Measures, is, falls, and}
-use Rattle.rules.specs.Problem.{messages}
+use Rattle.rules.specs.Problem.{messages, Gives}
 use Rattle.rules.proofs.Bounds.{member}
+use Rattle.planner.specs.Search.{planWords}
 use Rattle.planner.proofs.Gone.{Gone, gone-start, gone-closed, gone-met, gone-tried, gone-column, gone-all, found, whole, put-stands}
-use Rattle.planner.proofs.Room.{filled-more, no-room}
+use Rattle.planner.proofs.Room.{owners-more, no-room}
 use Rattle.planner.proofs.search.Reads as search′
 use Rattle.planner.proofs.search.Kinds as search-kinds
 use Rattle.planner.proofs.+search.Lts-search as search-lts
 use Rattle.basics.proofs.has_bit.Reads as has-bit-reads
 use Rattle.lookahead.proofs.cells.occupy.Reads as occupy-reads
+use Rattle.lookahead.proofs.cells.table_at.Reads as table-at-reads
 use Rattle.lookahead.proofs.possible.Reads as possible-reads
 use Rattle.planner.proofs.is_clear.Reads as is-clear-reads
 use Rattle.planner.proofs.placed.Reads as placed-reads
@@ -67,6 +69,8 @@ search-claims t = (
   columns-of-reads.Learnt,
   repeat-of-reads.Asked,
   repeat-of-reads.Learnt,
+  table-at-reads.Asked,
+  table-at-reads.Learnt,
   has-bit-reads.Asked,
   has-bit-reads.Learnt,
   placed-reads.Asked,
@@ -97,21 +101,21 @@ search-there N t = N (search-claims t) (search-at t) search′.Post search-Inv-l
 abbrev search-asks : search-Place → Type 0
 search-asks N = (t : ℕ) → search-there N t
 
--- the plan that comes in has 32 words
-plan-length : (t : ℕ) (c : search-there search-lts.Start t) → length (c .args .plan) ≡ 32
-plan-length t c = good-length (eInt w32) 32 (c .args .plan) _ (c .good .1 .1 .1 .0)
+-- the plan that comes in has the words of a plan
+plan-length : (t : ℕ) (c : search-there search-lts.Start t) → length (c .args .plan) ≡ planWords
+plan-length t c = good-length (eInt w32) planWords (c .args .plan) _ (c .good .1 .1 .1 .0)
 
 -- so there is room for the message that the search has come to
 below : (t : ℕ) (c : search-there search-lts.Else1 t) → c .before .before .before .args .at < messages (c .before .before .before .args .p .now)
 below t c = omega arith
 
-room : (t : ℕ) (c : search-there search-lts.Else1 t) → 2 * c .before .before .before .args .at + 1 < length (c .before .before .before .args .plan)
+room : (t : ℕ) (c : search-there search-lts.Else1 t) → Gives (c .before .before .before .args .plan) (c .before .before .before .args .at)
 room t c = omega (arith, below t c, plan-length t (c .before .before .before), c .before .before .before .pre .1 .few .most)
 
--- and the next plan has 32 words too
-next-length : (t : ℕ) (c : search-there search-lts.After-placed t) → length (c .placed .result) ≡ 32
+-- and the next plan has as many words
+next-length : (t : ℕ) (c : search-there search-lts.After-placed t) → length (c .placed .result) ≡ planWords
 next-length t c =
-    let start = c .before .before .before .before .before .before .before .before .before .before .before .before .before .before .before .before .before in
+    let start = c .before .before .before .before .before .before .before .before .before .before .before .before .before .before .before .before .before .before in
     ap length (c .placed .ensures) ∙ simp length-set (plan-length t start)
 
 search-returns : search-asks search-lts.Need-returns
@@ -123,7 +127,7 @@ search-possible-requires t c κs = let pre = c .before .before .before .before .
 search-returns-2 : search-asks search-lts.Need-returns-2
 search-returns-2 t c =
     let pre = c .before .before .before .before .before .before .pre .1 in
-    no-room (pre .few) (pre .within) (pre .filled) (c .before .before .unplaced .ensures) (c .before .possible .ensures) (not-true _ (c .if2 .taken))
+    no-room (pre .few) (pre .within) (pre .owners) (c .before .before .unplaced .ensures) (c .before .possible .ensures) (not-true _ (c .if2 .taken))
 
 search-repeat-of-requires : search-asks search-lts.Need-repeat-of-requires
 search-repeat-of-requires t c κs = member (c .before .before .before .before .before .before .before .before .pre .1 .few .formed) (omega arith)
@@ -136,34 +140,35 @@ search-slice-aggregate-is-clear t c = sym (next-length t (c .before))
 
 search-is-clear-requires : search-asks search-lts.Need-is-clear-requires
 search-is-clear-requires t c κs =
-    let old = c .before .before .before .before .before .before .before .before .before .before .before .before .before .before .before in
+    let old = c .before .before .before .before .before .before .before .before .before .before .before .before .before .before .before .before in
     let few = old .before .before .before .pre .1 .few in
     (member (few .formed) (below t old), omega (arith, next-length t (c .before), few .most, below t old))
 
 search-search-requires : search-asks search-lts.Need-search-requires
 search-search-requires t c κs =
     let test = c .before .before .before .before .before in
-    let place = test .before .before .before .before in
+    let place = test .before .before .before .before .before in
     let old = place .before .before .before .before .before .before .before .before .before in
     let begun = old .before .before .before .pre .1 in
     let next = c .before .before .before .before .placed .ensures in
     let times = place .before .before .before .repeat-of .ensures .is in
     let inside = eqb-true _ _ (sym (test .before .has-bit .ensures) ∙ test .if3 .taken) in
-    let may = begun .allows .each _ (place .loop2 .r) (below t old) (omega arith) .only _ inside in (
+    let at = test .before .before .before .table-at .ensures .0 in
+    let may = begun .allows .each _ (place .loop2 .r) (below t old) (omega arith) in (
       omega (arith, old .before .before .before .pre .0, below t old),
       record {
         few = begun .few;
         allows = begun .allows;
         needs = begun .needs;
         within = omega (arith, below t old);
-        stands = put-stands _ _ _ _ _ (room t old) next (begun .stands) may (c .before .before .is-clear .ensures) (c .before .if4 .taken);
-        filled = filled-more _ _ _ (room t old) next times (begun .filled) (c .occupy .ensures);
+        stands = put-stands _ _ _ _ _ (room t old) next (begun .stands) (rw at may) inside (c .before .before .is-clear .ensures) (c .before .if4 .taken);
+        owners = owners-more _ _ _ (room t old) next times (begun .owners) (c .occupy .ensures);
       },
     )
 
 search-returns-3 : search-asks search-lts.Need-returns-3
 search-returns-3 t c =
-    let place = c .before .before .before .before .before .before .before .before .before .before .before in
+    let place = c .before .before .before .before .before .before .before .before .before .before .before .before in
     let old = place .before .before .before .before .before .before .before .before .before in
     let yes : c .before .search .result .found ≡ true = c .if5 .taken in
     rw yes
@@ -172,15 +177,16 @@ search-returns-3 t c =
 
 search-loop2-again : search-asks search-lts.Need-loop2-again
 search-loop2-again t c =
-    let place = c .before .before .before .before in
+    let place = c .before .before .before .before .before in
     let old = place .before .before .before .before .before .before .before .before .before in
+    let at = c .before .before .before .table-at .ensures .0 in
     let inv = place .loop2 .inv in
     let times = place .before .before .before .repeat-of .ensures .is in
     ⊎-elim
     (λ w. gone-tried _ _ _ _ _ (room t old) (w .1 .ensures) (rw (w .7 .left) at (w .6 .ensures)) inv)
     (⊎-elim
     (λ w. gone-met _ _ _ _ _ (below t old) (room t old) (w .1 .ensures) (w .3 .ensures) (w .4 .left) inv)
-    (λ w. gone-closed _ _ _ _ _ (below t old) (room t old) (old .before .before .before .pre .1 .allows .each _ _ (below t old) (omega arith))
+    (λ w. gone-closed _ _ _ _ _ (below t old) (room t old) (rw at (old .before .before .before .pre .1 .allows .each _ _ (below t old) (omega arith)))
     (eqb-false _ _ (sym (c .before .has-bit .ensures) ∙ w .left)) inv))
     (c .if3 .came)
 
@@ -204,8 +210,7 @@ pub +search-spec : {M : Type 1} → statement M
     (search-repeat-of-requires t)
     (search-loop-holds t)
     (λ c. search needs)
-    (λ c. search needs)
-    (λ c. search needs)
+    (λ c κs. search needs)
     (λ c. search needs)
     (λ c. search needs)
     (λ c. search needs)

@@ -22,8 +22,7 @@ slice-aggregate-plan-words c =
 plan-words-requires : tie.Need-plan-words-requires
 plan-words-requires c κs =
     let got = c .before .before .before in
-    let opened = got .before .before .before .decode .ensures .opens _ (got .got .given .1) in
-    rw (opened .front) (opened .formed)
+    got .before .before .before .decode .ensures .opens _ (got .got .given .1) .formed
 
 returns-2 : tie.Need-returns-2
 returns-2 c =

@@ -1,8 +1,14 @@
--- The refusals in the order of document 01, and then what the search says.
+-- The refusals in the order of document 01, and then what the search says. What it finds is as long as the plan that it began with: a proposal's words
+-- are its first.
+use Prim.Native.Nat.{_≤_}
+use mathlib.Core.Path.{sym}
 use native.Mathlib.Omega.{arith}
 use borrow.Author.Tests.{not-true, not-false}
 use borrow.Author.Needs.{needs}
-use Rattle.planner.proofs.Room.{filled-none}
+use lib.ListN.{length, replicate}
+use lib.Seq.{length-take-le}
+use Rattle.planner.specs.Search.{planWords, Best}
+use Rattle.planner.proofs.Room.{owners-none}
 use Rattle.planner.proofs.Promise.{too-many, too-short, not-found, is-found}
 use Rattle.planner.proofs.plan_words.Statement.{statement}
 use Rattle.planner.proofs.plan_words.Tie as tie
@@ -14,41 +20,59 @@ returns-2 : tie.Need-returns-2
 returns-2 c = too-short _ _ (omega arith) (omega arith)
 
 allowed-requires : tie.Need-allowed-requires
-allowed-requires c κs = record { formed = c .before .before .before .before .before .pre; most = omega arith }
+allowed-requires c κs = record { formed = c .before .before .before .before .before .before .pre; most = omega arith }
 
 needs-of-requires : tie.Need-needs-of-requires
-needs-of-requires c κs = record { formed = c .before .before .before .before .before .before .pre; most = omega arith }
+needs-of-requires c κs = record { formed = c .before .before .before .before .before .before .before .pre; most = omega arith }
 
 search-requires : tie.Need-search-requires
 search-requires c κs =
     record {
-      few = record { formed = c .before .before .before .before .before .before .before .before .before .pre; most = omega arith };
+      few = record { formed = c .before .before .before .before .before .before .before .before .before .before .pre; most = omega arith };
       allows = c .before .before .before .allowed .ensures;
       needs = c .before .before .needs-of .ensures;
       within = omega arith;
       stands = record { each = λ j l. absurd (omega arith) };
-      filled = filled-none _ _;
+      owners = owners-none _ _;
     }
 
 returns-3 : tie.Need-returns-3
 returns-3 c =
     let searched = c .before .before in
-    let roomy = searched .before .before .before .before .before in
-    let few = roomy .before in
-    let count = few .before .messages-of .ensures .0 in
-    not-found _ _ (omega (arith, count, few .if1 .left)) (omega (arith, count, roomy .if2 .left)) (few .before .before .before .before .pre)
+    let asked = searched .before .before .before .before .before .before in
+    let few = asked .before in
+    not-found _ _ (omega (arith, few .before .messages-of .ensures .0, few .if1 .left)) (omega arith) (few .before .before .before .before .pre)
     (rw (not-true (searched .search .result .found) (c .if3 .taken)) at (searched .search .ensures))
+
+-- what was found, where something was, and that it has a proposal's words
+best : (c : tie.Else3)
+    → Best (c .before .before .before .before .before .before .before .before .before .before .before .before .before .args .p .now) 0 (replicate planWords 0)
+    (c .before .before .search .result .plan)
+best c = rw (not-false (c .before .before .search .result .found) (c .if3 .left)) at (c .before .before .search .ensures)
+
+long : (c : tie.Else3) → c .before .before .before .before .before .before .before .before .proposal-words .result ≤ length (c .before .before .search .result .plan)
+long c = omega (arith, best c .long)
+
+array-share-prefix-plan : tie.Need-array-share-prefix-plan
+array-share-prefix-plan c = omega (arith, long (c .before))
+
+slice-aggregate-copy-words : tie.Need-slice-aggregate-copy-words
+slice-aggregate-copy-words c =
+    let found = c .before .before in
+    sym (length-take-le _ (found .before .before .search .result .plan) (omega (arith, long found)))
+
+copy-words-requires : tie.Need-copy-words-requires
+copy-words-requires c κs =
+    let found = c .before .before .before in
+    omega (arith, length-take-le _ (found .before .before .search .result .plan) (long found))
 
 returns-4 : tie.Need-returns-4
 returns-4 c =
-    let chosen = c .before .before .before .before .before in
-    let searched = chosen .before .before in
-    let roomy = searched .before .before .before .before .before in
-    let few = roomy .before in
-    let count = few .before .messages-of .ensures .0 in
-    let best = rw (not-false (searched .search .result .found) (chosen .if3 .left)) at (searched .search .ensures) in
-    is-found _ _ (omega (arith, count, few .if1 .left)) (omega (arith, count, roomy .if2 .left))
-    (few .before .before .before .before .pre) count best (c .before .before .store .ensures)
+    let found = c .before .before .before .before .before .before in
+    let asked = found .before .before .before .before .before .before .before .before in
+    let few = asked .before in
+    is-found _ _ (omega (arith, few .before .messages-of .ensures .0, few .if1 .left)) (omega arith) (few .before .before .before .before .pre)
+    (asked .proposal-words .ensures .0) (omega (arith, best found .long, long found)) (best found) (c .before .before .copy-words .ensures)
 
 pub plan-words-spec : {M : Type 1} → statement M
 plan-words-spec =
@@ -56,14 +80,14 @@ plan-words-spec =
     (tie.spec
     (λ c κs. search needs)
     returns
-    (λ c. search needs)
+    (λ c κs. search needs)
     returns-2
     allowed-requires
     needs-of-requires
     search-requires
     returns-3
-    (λ c. search needs)
-    (λ c κs. search needs)
-    (λ c. search needs)
+    array-share-prefix-plan
+    slice-aggregate-copy-words
+    copy-words-requires
     (λ c. search needs)
     returns-4)

@@ -1,4 +1,4 @@
--- Only messages from the first one on are set.
+-- Only messages from the first one on are set, since the loop begins there.
 use Prim.Native.Nat.{_-_, _≤_}
 use native.Mathlib.Omega.{arith}
 use borrow.Author.Needs.{needs}
