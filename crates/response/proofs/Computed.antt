@@ -10,7 +10,6 @@ use lib.ListN.{length, getD, drop, length-append, length-drop, List·getD-append
 use lib.Seq.{getD-append-add, getD-drop}
 use lib.Dec.{eqb, ltb}
 use borrow.Author.Tests.{lt-ltb, le-ltb, eq-eqb, ne-eqb}
-use Rattle.basics.specs.Sums.{only}
 use Rattle.basics.proofs.Fixed.{Under}
 use Rattle.basics.proofs.Sums.{sum-same}
 use Rattle.basics.proofs.Runs.{tab}
@@ -18,9 +17,9 @@ use Rattle.rules.specs.declared.Fault.the-variants.{Clear}
 use Rattle.response.specs.declared.Responded.the-variants.{Done}
 use Rattle.response.specs.Events.{count, deadline, eventsFault}
 use Rattle.response.specs.Times.{blocking, queue, response, Written}
-use Rattle.response.specs.Answers.{zeros, Filled, Outcome}
+use Rattle.response.specs.Promise.{miss, zeros, TimesWritten, Responding}
 use Rattle.response.proofs.Faults.{clear-sound, call-clear}
-use Rattle.response.proofs.Outcomes.{outcome-done}
+use Rattle.response.proofs.Results.{responding-done}
 use Rattle.response.proofs.Waiting.{under-blocking, under-queue, met-here, missed-here}
 
 -- event i's time, from a w that it waits at least, found in n turns
@@ -91,14 +90,16 @@ module _ (e d : List ℕ) (room : count e ≤ length d) where
       ∙ getD-drop (count e) d (i - count e) 0
       ∙ ap (λ (n : ℕ). getD d n 0) m
 
-  filled : Filled e d (times e ++ drop (count e) d) (count e) (zeros (times e) (count e))
-  filled = record {
+  written : TimesWritten e d (times e ++ drop (count e) d) (count e)
+  written = record {
     as-long = let q = long in length-append (times e) (drop (count e) d) ∙ rw (long, length-drop) (omega arith);
     each = λ i l. subst (λ (t : ℕ). Written e i t) (sym (front i l ∙ at i l)) (time-written e i);
     kept = behind;
-    counted = sum-same (count e) _ _ (λ i l. ap (λ (v : ℕ). only (eqb v 0) 1) (sym (front i l)));
   }
 
-  pub computed : {x : List ℕ} {m : ℕ} → eventsFault e ≡ Clear → times e ++ drop (count e) d ≡ x → zeros (times e) (count e) ≡ m → Outcome e d x (Done m)
+  counted : zeros (times e) (count e) ≡ zeros (times e ++ drop (count e) d) (count e)
+  counted = sum-same (count e) _ _ (λ i l. ap miss (sym (front i l)))
+
+  pub computed : {x : List ℕ} {m : ℕ} → eventsFault e ≡ Clear → times e ++ drop (count e) d ≡ x → zeros (times e) (count e) ≡ m → Responding e d x (Done m)
   computed {x} {m} f p q =
-      outcome-done e d (sym (call-clear e (length d) (clear-sound e f) room)) refl (rw (← p, ← q) filled)
+      responding-done e d (sym (call-clear e (length d) (clear-sound e f) room)) refl (rw (← p) written) (rw (← p, ← q) counted)

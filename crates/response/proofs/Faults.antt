@@ -7,14 +7,14 @@ use native.Mathlib.Omega.{arith}
 use lib.ListN.{length}
 use lib.Dec.{eqb, ltb}
 use borrow.Author.Tests.{lt-ltb, le-ltb, lt-leb, eq-eqb, ne-eqb, eqb-true, eqb-false, ltb-false, leb-false, not-false}
-use Rattle.basics.proofs.Tests.{or-false, some-off, some-none}
+use Rattle.basics.proofs.Tests.{or-false, within, inside, some-off, some-none}
 use Rattle.rules.specs.declared.Refusal.{Refusal}
 use Rattle.rules.specs.declared.Refusal.the-variants.{EventWords, Event, Room}
 use Rattle.rules.specs.declared.Fault.{Fault}
 use Rattle.rules.specs.declared.Fault.the-variants.{Clear, Bad}
 use Rattle.rules.specs.Refusal.{firstFault}
 use Rattle.rules.proofs.Faults.{clear-guard, clear-both, first-clear, clear-first}
-use Rattle.response.specs.Events.{count, identifier, size, period, jitter, deadline, Rules, Whole, Sound}
+use Rattle.response.specs.Events.{eventWords, mostWords, longestPeriod, count, identifier, size, period, jitter, deadline, Rules, Whole, Sound}
 use Rattle.response.specs.Events.{fieldsWrong, repeated, eventWrong, wordsWrong, eventFault, eventsFault, callFault}
 
 -- ---- the code's steps
@@ -58,32 +58,32 @@ module _ (e : List ℕ) where
 module _ (e : List ℕ) where
   pub clear-whole : wordsWrong (length e) ≡ false → Whole e
   clear-whole h =
-      let p = or-false (not (eqb (length e % 5) 0)) (ltb 320 (length e)) h in
-      let a : length e % 5 ≡ 0 = eqb-true _ _ (not-false _ (p .0)) in
-      let b : length e ≤ 320 = ltb-false _ _ (p .1) in
+      let p = or-false (not (eqb (length e % eventWords) 0)) (ltb mostWords (length e)) h in
+      let a : length e % eventWords ≡ 0 = eqb-true _ _ (not-false _ (p .0)) in
+      let b : length e ≤ mostWords = ltb-false _ _ (p .1) in
       record { words = omega arith; count-most = omega arith }
 
   pub whole-clear : Whole e → wordsWrong (length e) ≡ false
-  whole-clear w = rw (eq-eqb (length e % 5) 0 (omega arith), le-ltb 320 (length e) (omega arith))
+  whole-clear w = rw (eq-eqb (length e % eventWords) 0 (omega arith), le-ltb mostWords (length e) (omega arith))
 
   pub clear-rules : (j : ℕ) → eventWrong e j ≡ false → Rules e j
   unfolding eventWrong repeated
   clear-rules j h =
       let all = or-false _ _ h in
       let deadlines = or-false _ _ (all .0) in
-      let due = or-false _ _ (deadlines .1) in
+      let due = within _ _ _ (deadlines .1) in
       let jitters = or-false _ _ (deadlines .0) in
       let periods = or-false _ _ (jitters .0) in
-      let time = or-false _ _ (periods .1) in
+      let time = within _ _ _ (periods .1) in
       let sizes = or-false _ _ (periods .0) in
       record {
         identifier-most = ltb-false _ _ (sizes .0);
         size-most = ltb-false _ _ (sizes .1);
-        period-least = ltb-false _ _ (time .0);
-        period-most = ltb-false _ _ (time .1);
+        period-least = time .0;
+        period-most = time .1;
         jitter-below = leb-false _ _ (jitters .1);
-        deadline-least = ltb-false _ _ (due .0);
-        deadline-most = ltb-false _ _ (due .1);
+        deadline-least = due .0;
+        deadline-most = due .1;
         unlike-earlier = λ i l. eqb-false _ _ (some-none _ _ (all .1) i l);
       }
 
@@ -93,11 +93,9 @@ module _ (e : List ℕ) where
       rw (
         le-ltb 2047 (identifier e j) (r .identifier-most),
         le-ltb 8 (size e j) (r .size-most),
-        le-ltb (period e j) 1 (r .period-least),
-        le-ltb 4194304 (period e j) (r .period-most),
+        inside (period e j) 1 longestPeriod (r .period-least) (r .period-most),
         lt-leb (period e j) (jitter e j) (r .jitter-below),
-        le-ltb (deadline e j) 1 (r .deadline-least),
-        le-ltb (period e j) (deadline e j) (r .deadline-most),
+        inside (deadline e j) 1 (period e j) (r .deadline-least) (r .deadline-most),
         some-off j (λ i. eqb (identifier e i) (identifier e j)) (λ i l. ne-eqb _ _ (r .unlike-earlier i l)),
       )
 

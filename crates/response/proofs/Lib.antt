@@ -2,8 +2,8 @@ pub mod Faults
 pub mod Refusals
 pub mod Queue
 pub mod Waiting
-pub mod Loops
+pub mod Figures
 pub mod Filling
-pub mod Outcomes
+pub mod Results
 pub mod Computed
 pub mod Worked

@@ -3,7 +3,7 @@ use Prim.Native.Nat.{ℕ, zero, suc, _+_, _*_, _-_, _/_, _<_, _≤_}
 use mathlib.Core.List.{List}
 use native.Mathlib.Nat.{lt-div-mul-add, div-lt-iff-lt-mul, mul-le-mul, le-div-iff-mul-le, div-zero, div-mul-le-self}
 use native.Mathlib.Omega.{arith}
-use Rattle.basics.proofs.Fixed.{Rising}
+use Rattle.basics.proofs.Fixed.{NeverFalls}
 use Rattle.basics.proofs.Sums.{sum-rises, only-rises}
 use Rattle.response.specs.Events.{count, period}
 use Rattle.response.specs.Times.{wins, ceiling, arrivals, interference, demand, queue}
@@ -31,5 +31,5 @@ module _ (e : List ℕ) (i v w : ℕ) (h : v ≤ w) where
   pub demand-rises : demand e i v ≤ demand e i w
   demand-rises = sum-rises (count e) _ _ (λ j l. interference-rises j)
 
-pub queue-rises : (e : List ℕ) (i : ℕ) → Rising (queue e i)
+pub queue-rises : (e : List ℕ) (i : ℕ) → NeverFalls (queue e i)
 queue-rises e i = record { rises = λ v w h. let a = demand-rises e i (v + 1) (w + 1) (omega arith) in omega arith }

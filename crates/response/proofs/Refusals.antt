@@ -1,20 +1,18 @@
 -- Each refusal of the call in the words of the record of rules: the chain of tests gives it exactly then.
-use Prim.Native.Nat.{ℕ, zero, suc, _<_}
+use Prim.Native.Nat.{ℕ, _<_}
 use mathlib.Core.Path.{_≡_, refl, sym}
 use mathlib.Core.Bool.{Bool, true, false}
-use mathlib.Core.Logic.{_⊎_, inl, inr}
+use mathlib.Core.Logic.{inl, inr}
 use mathlib.Core.List.{List}
-use native.Mathlib.Omega.{arith}
 use lib.ListN.{length}
 use lib.Dec.{ltb}
 use borrow.Author.Tests.{ltb-true}
 use Rattle.basics.proofs.Tests.{not-both}
 use Rattle.rules.specs.declared.Refusal.{Refusal}
 use Rattle.rules.specs.declared.Refusal.the-variants.{EventWords, Event, Room}
-use Rattle.rules.specs.declared.Fault.{Fault}
-use Rattle.rules.specs.declared.Fault.the-variants.{Clear, Bad}
-use Rattle.rules.specs.Refusal.{guard, _⊕_, firstFault}
-use Rattle.rules.proofs.Faults.{bad-not-clear, clear-guard, clear-first, first-at}
+use Rattle.rules.specs.declared.Fault.the-variants.{Bad}
+use Rattle.rules.specs.Refusal.{guard, firstFault}
+use Rattle.rules.proofs.Faults.{clear-guard, bad-guard, bad-either, first-at, bad-first}
 use Rattle.response.specs.Events.{count, Rules, Whole, Sound, eventWrong, wordsWrong, eventFault, eventsFault, callFault}
 use Rattle.response.proofs.Faults.{fault-bad, fault-clear, events-words, events-each, call-events, call-room}
 use Rattle.response.proofs.Faults.{clear-whole, whole-clear, clear-rules, rules-clear, clear-sound, sound-clear}
@@ -28,31 +26,6 @@ pub data Because (e : List ℕ) (room : ℕ) : Refusal → Type 0 where
 on : (b : Bool) → ¬ (b ≡ false) → b ≡ true
 on true h = refl
 on false h = absurd (h refl)
-
--- ---- a fault that is bad is so by one of its parts
-bad-guard : (b : Bool) (r : Refusal) {q : Refusal} → guard b r ≡ Bad q → (b ≡ true) × (q ≡ r)
-bad-guard true r e = (refl, cc)
-bad-guard false r e = bad-not-clear refl e
-
-bad-either : (a b : Fault) {q : Refusal} → a ⊕ b ≡ Bad q → (a ≡ Bad q) ⊎ ((a ≡ Clear) × (b ≡ Bad q))
-bad-either Clear b e = inr (refl, e)
-bad-either (Bad r) b e = inl e
-
--- the first fault of a row is that of a test, and those before it find none
-pub record First (n : ℕ) (g : ℕ → Fault) (q : Refusal) : Type 0 where
-  pub at : ℕ
-  pub below : at < n
-  pub before : (i : ℕ) → i < at → g i ≡ Clear
-  pub here : g at ≡ Bad q
-
-bad-first : (n : ℕ) (g : ℕ → Fault) {q : Refusal} → firstFault n g ≡ Bad q → First n g q
-unfolding firstFault
-bad-first zero g e = bad-not-clear refl e
-bad-first (suc n) g {q} e =
-    elim (bad-either (firstFault n g) (g n) e) [
-      | inl f ↦ let r = bad-first n g f in record { at = r .at; below = let l = r .below in omega arith; before = r .before; here = r .here }
-      | inr p ↦ record { at = n; below = omega arith; before = clear-first n g (p .0); here = p .1 }
-    ]
 
 -- ---- the tests and the record, each way
 module _ (e : List ℕ) where

@@ -9,19 +9,19 @@ use Rattle.rules.specs.declared.Refusal.the-variants.{Event}
 use Rattle.rules.specs.Refusal.{firstFault}
 use Rattle.response.specs.declared.Responded.the-variants.{Done, Refused}
 use Rattle.response.specs.Events.{repeated, eventWrong, eventsFault, callFault}
-use Rattle.response.specs.Answers.{Outcome}
-use Rattle.response.proofs.Outcomes.{outcome-refused}
+use Rattle.response.specs.Promise.{Responding}
+use Rattle.response.proofs.Results.{responding-refused}
 use Rattle.response.proofs.Computed.{seek, time, times, computed}
 
 -- no events: nothing is written, and none is missed
-pub no-events : (d : List ℕ) → Outcome [] d d (Done 0)
+pub no-events : (d : List ℕ) → Responding [] d d (Done 0)
 unfolding eventsFault firstFault sum times
 no-events d = computed [] d (omega arith) refl refl refl
 
 -- the same identifier twice, and no room: the later event is at fault, before the room is
-pub twice : Outcome (7 ∷ 0 ∷ 100 ∷ 0 ∷ 100 ∷ 7 ∷ 0 ∷ 100 ∷ 0 ∷ 100 ∷ []) [] [] (Refused (Event 1))
+pub twice : Responding (7 ∷ 0 ∷ 100 ∷ 0 ∷ 100 ∷ 7 ∷ 0 ∷ 100 ∷ 0 ∷ 100 ∷ []) [] [] (Refused (Event 1))
 unfolding callFault eventsFault eventWrong repeated some firstFault
-twice = outcome-refused (7 ∷ 0 ∷ 100 ∷ 0 ∷ 100 ∷ 7 ∷ 0 ∷ 100 ∷ 0 ∷ 100 ∷ []) [] refl refl
+twice = responding-refused (7 ∷ 0 ∷ 100 ∷ 0 ∷ 100 ∷ 7 ∷ 0 ∷ 100 ∷ 0 ∷ 100 ∷ []) [] refl refl
 
 -- three events of 8 bytes with periods 337, 475 and 475, the third with a deadline d
 abbrev pub three : ℕ → List ℕ
@@ -29,12 +29,12 @@ three d = 1 ∷ 8 ∷ 337 ∷ 0 ∷ 337 ∷ 2 ∷ 8 ∷ 475 ∷ 0 ∷ 475 ∷ 3 
 
 -- in a buffer of three words or more
 module _ (a b c : ℕ) (rest : List ℕ) where
-  pub all-met : Outcome (three 440) (a ∷ b ∷ c ∷ rest) (270 ∷ 405 ∷ 405 ∷ rest) (Done 0)
+  pub all-met : Responding (three 440) (a ∷ b ∷ c ∷ rest) (270 ∷ 405 ∷ 405 ∷ rest) (Done 0)
   unfolding eventsFault eventWrong repeated some firstFault sum largest seek time times
   all-met = computed (three 440) (a ∷ b ∷ c ∷ rest) (omega arith) refl refl refl
 
   -- a deadline of 404 is missed: 0 there, and one miss
-  pub one-missed : Outcome (three 404) (a ∷ b ∷ c ∷ rest) (270 ∷ 405 ∷ 0 ∷ rest) (Done 1)
+  pub one-missed : Responding (three 404) (a ∷ b ∷ c ∷ rest) (270 ∷ 405 ∷ 0 ∷ rest) (Done 1)
   unfolding eventsFault eventWrong repeated some firstFault sum largest seek time times
   one-missed = computed (three 404) (a ∷ b ∷ c ∷ rest) (omega arith) refl refl refl
 
@@ -51,6 +51,6 @@ seven =
     ∷ []
 
 -- 10,8 16,2 21,6 27,0 32,4 and 37,8 ms
-pub table-1 : Outcome seven (0 ∷ 0 ∷ 0 ∷ 0 ∷ 0 ∷ 0 ∷ 0 ∷ []) (270 ∷ 405 ∷ 540 ∷ 675 ∷ 810 ∷ 945 ∷ 0 ∷ []) (Done 1)
+pub table-1 : Responding seven (0 ∷ 0 ∷ 0 ∷ 0 ∷ 0 ∷ 0 ∷ 0 ∷ []) (270 ∷ 405 ∷ 540 ∷ 675 ∷ 810 ∷ 945 ∷ 0 ∷ []) (Done 1)
 unfolding eventsFault eventWrong repeated some firstFault sum largest seek time times
 table-1 = computed seven (0 ∷ 0 ∷ 0 ∷ 0 ∷ 0 ∷ 0 ∷ 0 ∷ []) (omega arith) refl refl refl

@@ -1,4 +1,5 @@
 pub mod Events
 pub mod Times
-pub mod Answers
+pub mod Answer
+pub mod Promise
 pub mod Parts

@@ -5,7 +5,7 @@ use mathlib.Core.Bool.{Bool}
 use mathlib.Core.List.{List}
 use lib.Dec.{ltb}
 use Rattle.basics.specs.Sums.{sum, largest, only}
-use Rattle.basics.specs.Fixed.{Least}
+use Rattle.basics.specs.Fixed.{LeastSolution}
 use Rattle.rules.specs.Problem.{frame}
 use Rattle.response.specs.Events.{count, identifier, size, period, jitter, deadline}
 
@@ -46,7 +46,7 @@ abbrev pub queue : List ℕ → ℕ → ℕ → ℕ
 queue e i w = blocking e i + demand e i (w + 1)
 
 abbrev pub Queued : List ℕ → ℕ → ℕ → Type 0
-Queued e i w = Least (queue e i) 0 w
+Queued e i w = LeastSolution (queue e i) 0 w
 
 -- ---- the response of event i, where it is queued for w, and t, the word that is written for it
 abbrev pub response : List ℕ → ℕ → ℕ → ℕ

@@ -1,18 +1,34 @@
 // The words of events, and what is wrong with them.
+use basics::is_outside;
 use rules::Fault;
 use rules::Refusal;
 ghost use mathlib.Core.Path.{_≡_};
-ghost use Prim.Native.Nat.{_+_, _*_, _<_, _≤_};
-ghost use lib.ListN.{length};
+ghost use Prim.Native.Nat.{_<_};
 ghost use Rattle.rules.specs.Refusal.{firstFault};
-ghost use Rattle.response.specs.Events.{count, field, Whole, fieldsWrong, repeated as theRepeated, eventWrong, wordsWrong, eventFault, eventsFault, callFault};
+ghost use Rattle.response.specs.Events.{eventWords, count, field, Gives, Whole, fieldsWrong, repeated, eventWrong, wordsWrong, eventFault, eventsFault, callFault};
+
+// So many words are an event.
+const EVENT_WORDS: usize = 5;
+
+// A call takes at most 64 events.
+const MOST_WORDS: usize = EVENT_WORDS * 64;
+
+// No period is longer.
+const LONGEST_PERIOD: u32 = 4194304;
+
+// How many events the words are.
+pub(crate) fn count_of(events: &[u32]) -> usize
+    ensures { λ r. ⌜ r ≡ count (now (events .entry)) ⌝ }
+{
+    events.len() / EVENT_WORDS
+}
 
 // Word k of event j.
 pub(crate) fn word(events: &[u32], j: usize, k: usize) -> u32
-    requires { ⌜ (5 * j + k < length (now events)) × (j < 64) × (k < 5) ⌝ }
+    requires { ⌜ Gives (now events) j × (k < eventWords) ⌝ }
     ensures { λ r. ⌜ r ≡ field (now (events .entry)) j k ⌝ }
 {
-    events[5 * j + k]
+    events[EVENT_WORDS * j + k]
 }
 
 // Whether a word of an event is out of its range.
@@ -21,15 +37,15 @@ fn fields_wrong(id: u32, size: u32, period: u32, jitter: u32, deadline: u32) -> 
 {
     (2047 < id)
         | (8 < size)
-        | ((period < 1) | (4194304 < period))
+        | is_outside(period, 1, LONGEST_PERIOD)
         | (period <= jitter)
-        | ((deadline < 1) | (period < deadline))
+        | is_outside(deadline, 1, period)
 }
 
 // Whether an earlier event has event j's identifier.
-fn repeated(events: &[u32], j: usize) -> bool
-    requires { ⌜ (5 * j + 5 ≤ length (now events)) × (j < 64) ⌝ }
-    ensures { λ r. ⌜ r ≡ theRepeated (now (events .entry)) j ⌝ }
+fn is_repeated(events: &[u32], j: usize) -> bool
+    requires { ⌜ Gives (now events) j ⌝ }
+    ensures { λ r. ⌜ r ≡ repeated (now (events .entry)) j ⌝ }
 {
     let id = word(events, j, 0);
     let mut i: usize = 0;
@@ -44,7 +60,7 @@ fn repeated(events: &[u32], j: usize) -> bool
 
 // Whether event j breaks a rule.
 fn event_wrong(events: &[u32], j: usize) -> bool
-    requires { ⌜ (5 * j + 5 ≤ length (now events)) × (j < 64) ⌝ }
+    requires { ⌜ Gives (now events) j ⌝ }
     ensures { λ r. ⌜ r ≡ eventWrong (now (events .entry)) j ⌝ }
 {
     let id = word(events, j, 0);
@@ -52,7 +68,7 @@ fn event_wrong(events: &[u32], j: usize) -> bool
     let period = word(events, j, 2);
     let jitter = word(events, j, 3);
     let deadline = word(events, j, 4);
-    fields_wrong(id, size, period, jitter, deadline) | repeated(events, j)
+    fields_wrong(id, size, period, jitter, deadline) | is_repeated(events, j)
 }
 
 // The first event that breaks a rule.
@@ -60,7 +76,7 @@ fn first_fault(events: &[u32]) -> Fault
     requires { ⌜ Whole (now events) ⌝ }
     ensures { λ r. ⌜ r ≡ firstFault (count (now (events .entry))) (eventFault (now (events .entry))) ⌝ }
 {
-    let n = events.len() / 5;
+    let n = count_of(events);
     let mut j: usize = 0;
     while j < n {
         if event_wrong(events, j) {
@@ -75,7 +91,7 @@ fn first_fault(events: &[u32]) -> Fault
 fn words_wrong(n: usize) -> bool
     ensures { λ r. ⌜ r ≡ wordsWrong n ⌝ }
 {
-    (n % 5 != 0) | (320 < n)
+    (n % EVENT_WORDS != 0) | (MOST_WORDS < n)
 }
 
 // What is wrong with the events: how many words they are, or the first that breaks a rule.
@@ -96,7 +112,7 @@ pub(crate) fn call_fault(events: &[u32], room: usize) -> Fault
     if let Fault::Bad(refusal) = fault {
         return Fault::Bad(refusal);
     }
-    if room < events.len() / 5 {
+    if room < count_of(events) {
         return Fault::Bad(Refusal::Room);
     }
     Fault::Clear

@@ -14,7 +14,7 @@ returns c =
     (read .before .word4 .ensures)
     (read .word5 .ensures)
     (c .before .fields-wrong .ensures)
-    (c .repeated .ensures)
+    (c .is-repeated .ensures)
 
 pub event-wrong-spec : {M : Type 1} → statement M
 event-wrong-spec =

@@ -18,23 +18,11 @@ abbrev μ-loop : tie.MeasureT-loop
 μ-loop events n j₀ j = n - j
 
 loop-holds : tie.Need-loop-holds Inv-loop μ-loop
-loop-holds c = (search needs, search needs, below-none _)
-
-event-wrong-requires : tie.Need-event-wrong-requires Inv-loop μ-loop
-event-wrong-requires c κs = search needs
-
-cast-event : tie.Need-cast-t7 Inv-loop μ-loop
-cast-event c = search needs
+loop-holds c = (search needs, c .count-of .ensures, below-none _)
 
 returns : tie.Need-returns Inv-loop μ-loop
 returns c =
     sym (first-at _ _ _ _ (omega arith) (c .before .before .before .loop .inv .2) (fault-bad _ _ (sym (c .before .event-wrong .ensures) ∙ c .if1 .taken)))
-
-add-j : tie.Need-add-j Inv-loop μ-loop
-add-j c = search needs
-
-loop-less : tie.Need-loop-less Inv-loop μ-loop
-loop-less c = search needs
 
 loop-again : tie.Need-loop-again Inv-loop μ-loop
 loop-again c =
@@ -50,11 +38,12 @@ first-fault-spec =
     (tie.spec
     Inv-loop
     μ-loop
+    (λ c κs. search needs)
     loop-holds
-    event-wrong-requires
-    cast-event
+    (λ c κs. search needs)
+    (λ c. search needs)
     returns
-    add-j
-    loop-less
+    (λ c. search needs)
+    (λ c. search needs)
     loop-again
     returns-2)

@@ -9,8 +9,8 @@ use borrow.Author.Needs.{needs}
 use borrow.Author.Tests.{eq-eqb, ne-eqb}
 use Rattle.basics.proofs.Tests.{some-on, some-off}
 use Rattle.response.specs.Events.{identifier, repeated}
-use Rattle.response.proofs.events.repeated.Statement.{statement}
-use Rattle.response.proofs.events.repeated.Tie as tie
+use Rattle.response.proofs.events.is_repeated.Statement.{statement}
+use Rattle.response.proofs.events.is_repeated.Tie as tie
 
 abbrev Inv-loop : tie.InvT-loop
 Inv-loop events j id i₀ i = (i ≤ j) × (id ≡ identifier events j) × ((k : ℕ) → k < i → eqb (identifier events k) (identifier events j) ≡ false)
@@ -18,24 +18,12 @@ Inv-loop events j id i₀ i = (i ≤ j) × (id ≡ identifier events j) × ((k :
 abbrev μ-loop : tie.MeasureT-loop
 μ-loop events j id i₀ i = j - i
 
-word-requires : tie.Need-word-requires Inv-loop μ-loop
-word-requires c κs = search needs
-
 loop-holds : tie.Need-loop-holds Inv-loop μ-loop
 loop-holds c = (search needs, c .word .ensures, below-none _)
-
-word-requires-2 : tie.Need-word-requires-2 Inv-loop μ-loop
-word-requires-2 c κs = search needs
 
 returns : tie.Need-returns Inv-loop μ-loop
 unfolding repeated
 returns c = sym (some-on _ _ _ (omega arith) (eq-eqb _ _ (sym (c .before .word2 .ensures) ∙ c .if1 .taken ∙ c .before .before .before .loop .inv .1)))
-
-add-i : tie.Need-add-i Inv-loop μ-loop
-add-i c = search needs
-
-loop-less : tie.Need-loop-less Inv-loop μ-loop
-loop-less c = search needs
 
 loop-again : tie.Need-loop-again Inv-loop μ-loop
 loop-again c =
@@ -46,17 +34,17 @@ returns-2 : tie.Need-returns-2 Inv-loop μ-loop
 unfolding repeated
 returns-2 c = sym (some-off _ _ (λ k l. c .before .loop .inv .2 k (omega arith)))
 
-pub repeated-spec : {M : Type 1} → statement M
-repeated-spec =
+pub is-repeated-spec : {M : Type 1} → statement M
+is-repeated-spec =
     tie.close
     (tie.spec
     Inv-loop
     μ-loop
-    word-requires
+    (λ c κs. search needs)
     loop-holds
-    word-requires-2
+    (λ c κs. search needs)
     returns
-    add-i
-    loop-less
+    (λ c. search needs)
+    (λ c. search needs)
     loop-again
     returns-2)
