@@ -1,14 +1,36 @@
-/* ffynorwel.h: the proved calls of Ffynorwel for C99 and for every language that calls C.
+/* ffynorwel.h: the proved calls of Ffynorwel for C99, C++ and every language that calls C.
 
    A slice is a pointer and the number of its elements. A pointer is never null, not even of an empty slice; buffers that a call
-   writes overlap nothing else that it is given. A call keeps nothing and may be called from any thread.
+   writes overlap nothing else that it is given. A call keeps nothing and may be called from any thread. It takes no memory but
+   stack: ffy_plan up to 110,000 bytes, every other call less than 5,000.
 
    Each call stores its answer in eight words:
-     answer[0]      number: 0 is done, 1 to 18 a refusal (document 01, "Numbers handed back")
+     answer[0]      number: 0 is done, 1 to 18 a refusal
      answer[1]      place: the column, message, node or event that a refusal speaks of, from 0; else 0
      answer[2]      second place: 0
      answer[3..7]   figures: as said at each call; all that it does not speak of are 0, and all are 0 with a refusal
-   A refused call writes to no other buffer, and a longer buffer keeps what is beyond the output. */
+   A refused call writes to no other buffer, and a longer buffer keeps what is beyond the output.
+
+   number   when                                                                        place
+     0      done                                                                        0
+     1      the file or the problem's words have the wrong length                       0
+     2      the file does not begin with the mark TSM                                   0
+     3      the file's version is not 1                                                 0
+     4      a number of the header is out of its range                                  0
+     5      a column breaks its rule                                                    the first such column
+     6      a message's identifier, node, data bytes or receivers are wrong             the message
+     7      a message's period, offset or deadline is wrong                             the message
+     8      a node needs more triggers than it may have                                 the lowest such node
+     9      the proposal is not two words for each message                              0
+    10      a message's column or base row is out of range                              the message
+    11      a message's frame is longer than its column is wide                         the message
+    12      a message is late: not sent from release to deadline                        the message
+    13      a message meets an earlier one                                              the later message
+    14      no acceptable proposal exists                                               0
+    15      there are more than 16 messages to plan                                     0
+    16      the output buffer is too short                                              0
+    17      the event words are not five for each event, or more than 320               0
+    18      a field of an event is wrong                                                the first such event */
 #ifndef FFYNORWEL_H
 #define FFYNORWEL_H
 
@@ -22,26 +44,28 @@ extern "C" {
 /* Room for every output: a problem's words, its file's bytes, a proposal of the planner, the trigger lists, response times. */
 enum { FFY_WORDS = 519, FFY_BYTES = 1296, FFY_PLAN = 32, FFY_LISTS = 2064, FFY_TIMES = 64 };
 
-/* Reads a problem file into words. Figure 0: how many words. */
+/* Reads a problem file into words. Figure 0: how many words. Refuses with 1 to 8, 16. */
 void ffy_read(const uint8_t *file, size_t file_len, uint32_t *words, size_t words_len, uint32_t answer[8]);
 
-/* Writes a problem's words as a file. Figure 0: how many bytes. */
+/* Writes a problem's words as a file. Figure 0: how many bytes. Refuses with 1, 4 to 8, 16. */
 void ffy_write(const uint32_t *words, size_t words_len, uint8_t *file, size_t file_len, uint32_t answer[8]);
 
-/* Checks a proposal, two words for each message: column and base row. */
+/* Checks a proposal, two words for each message: column and base row. Refuses with 1 to 13. */
 void ffy_check(const uint8_t *file, size_t file_len, const uint32_t *proposal, size_t proposal_len, uint32_t answer[8]);
 
-/* Says where the bus time of one matrix cycle goes. Figures 0 to 4: reference, used, in-window, empty, gaps. */
+/* Says where the bus time of one matrix cycle goes. Figures 0 to 4: reference, used, in-window, empty, gaps. Refuses with 1 to 13. */
 void ffy_losses(const uint8_t *file, size_t file_len, const uint32_t *proposal, size_t proposal_len, uint32_t answer[8]);
 
-/* Writes the trigger lists of the 16 nodes: their counts, then the list of each. Figure 0: how many words. */
+/* Writes the trigger lists of the 16 nodes: their counts, then the list of each. Figure 0: how many words. Refuses with 1 to 13, 16. */
 void ffy_lists(const uint8_t *file, size_t file_len, const uint32_t *proposal, size_t proposal_len, uint32_t *words, size_t words_len,
                uint32_t answer[8]);
 
-/* Plans at most 16 messages: writes the least acceptable proposal, or answers 14 if there is none. Figure 0: how many words. */
+/* Plans at most 16 messages: writes the least acceptable proposal, or answers 14 if there is none. Figure 0: how many words.
+   Refuses with 1 to 8, 14 to 16. */
 void ffy_plan(const uint8_t *file, size_t file_len, uint32_t *proposal, size_t proposal_len, uint32_t answer[8]);
 
-/* Writes the response time of each event on a plain CAN bus, five words an event; 0 is a miss. Figure 0: how many misses. */
+/* Writes the response time of each event on a plain CAN bus, five words an event; 0 is a miss. Figure 0: how many misses.
+   Refuses with 16 to 18. */
 void ffy_responses(const uint32_t *events, size_t events_len, uint32_t *times, size_t times_len, uint32_t answer[8]);
 
 #ifdef __cplusplus

@@ -10,12 +10,12 @@ use Rattle.checker.specs.Promise.{Checking}
 use Rattle.checker.proofs.Promise.{checking-one}
 use Rattle.losses.specs.Promise.{Losing}
 use Rattle.losses.proofs.Promise.{losing-one}
-use Rattle.triggers.specs.Promise.{Promise as Listing}
-use Rattle.triggers.proofs.Promised.{promise-one}
+use Rattle.triggers.specs.Promise.{Listing}
+use Rattle.triggers.proofs.Results.{listing-one}
 use Rattle.planner.specs.Promise.{Planning}
 use Rattle.planner.proofs.Unique.{planning-one}
-use Rattle.response.specs.Answers.{Outcome}
-use Rattle.response.proofs.Outcomes.{outcome-one}
+use Rattle.response.specs.Promise.{Responding}
+use Rattle.response.proofs.Results.{responding-one}
 use Rattle.ffynorwel.specs.Eight.{readWords, writtenWords, checkedWords, lostWords, listedWords, plannedWords, respondedWords}
 use Rattle.ffynorwel.specs.Handed.{Handed}
 
@@ -33,7 +33,7 @@ module _ {A B : Type 0} {P Q : A → Type 0} {words : A → List ℕ} {x y : Lis
   handed-both : ((r s : A) → P r → Q s → (r ≡ s) × B) → Handed P words x → Handed Q words y → (x ≡ y) × B
   handed-both both a b = (handed-one (λ r s p q. both r s p q .0) a b, both _ _ (a .promised) (b .promised) .1)
 
-module _ {f d e g x y : List ℕ} where
+module _ (f d : List ℕ) {e g x y : List ℕ} where
   pub ffy-read-one : Handed (Reading f d e) readWords x → Handed (Reading f d g) readWords y → (x ≡ y) × (e ≡ g)
   ffy-read-one = handed-both (λ r s a b. read-one f d e g r s a b)
 
@@ -43,8 +43,8 @@ module _ {f d e g x y : List ℕ} where
   pub ffy-plan-one : Handed (Planning f d e) plannedWords x → Handed (Planning f d g) plannedWords y → (x ≡ y) × (e ≡ g)
   ffy-plan-one = handed-both (λ r s a b. planning-one a b)
 
-  pub ffy-responses-one : Handed (Outcome f d e) respondedWords x → Handed (Outcome f d g) respondedWords y → (x ≡ y) × (e ≡ g)
-  ffy-responses-one = handed-both (λ r s a b. let o = outcome-one a b in (o .1, o .0))
+  pub ffy-responses-one : Handed (Responding f d e) respondedWords x → Handed (Responding f d g) respondedWords y → (x ≡ y) × (e ≡ g)
+  ffy-responses-one = handed-both (λ r s a b. responding-one a b)
 
 module _ {f w x y : List ℕ} where
   pub ffy-check-one : Handed (Checking f w) checkedWords x → Handed (Checking f w) checkedWords y → x ≡ y
@@ -55,4 +55,4 @@ module _ {f w x y : List ℕ} where
 
 module _ (f w d : List ℕ) {e g x y : List ℕ} where
   pub ffy-lists-one : Handed (Listing f w d e) listedWords x → Handed (Listing f w d g) listedWords y → (x ≡ y) × (e ≡ g)
-  ffy-lists-one = handed-both (λ r s a b. promise-one f w d a b)
+  ffy-lists-one = handed-both (λ r s a b. listing-one f w d a b)

@@ -1,6 +1,7 @@
 -- The eight words in which an answer is handed to a caller in another language.
 use Prim.Native.Nat.{ℕ}
 use mathlib.Core.List.{List, [], _∷_}
+use Rattle.rules.specs.declared.Paper.{Paper}
 use Rattle.reader.specs.declared.answer.Read.{Read}
 use Rattle.reader.specs.Answer as ofReader
 use Rattle.writer.specs.declared.Written.{Written}
@@ -14,31 +15,34 @@ use Rattle.triggers.specs.Answer as ofTriggers
 use Rattle.planner.specs.declared.answer.Planned.{Planned}
 use Rattle.planner.specs.Answer as ofPlanner
 use Rattle.response.specs.declared.Responded.{Responded}
-use Rattle.response.specs.Answers as ofResponse
+use Rattle.response.specs.Answer as ofResponse
 
 -- number, place, second place, which no answer has yet, and five figures
-abbrev pub eight : ℕ → ℕ → ℕ → ℕ → ℕ → ℕ → ℕ → List ℕ
-eight number place a b c d e = number ∷ place ∷ 0 ∷ a ∷ b ∷ c ∷ d ∷ e ∷ []
+abbrev pub eight : Paper → ℕ → ℕ → ℕ → ℕ → ℕ → List ℕ
+eight p a b c d e = p .number ∷ p .place ∷ 0 ∷ a ∷ b ∷ c ∷ d ∷ e ∷ []
+
+-- one figure, and four that are 0
+abbrev pub counted : Paper → ℕ → List ℕ
+counted p n = eight p n 0 0 0 0
 
 -- ---- the figures of each call: how much was written, the five losses, the misses; 0 where there are fewer
 abbrev pub readWords : Read → List ℕ
-readWords r = eight (ofReader.numberOf r) (ofReader.placeOf r) (ofReader.countOf r) 0 0 0 0
+readWords r = counted (ofReader.paper r) (ofReader.countOf r)
 
 abbrev pub writtenWords : Written → List ℕ
-writtenWords r = eight (ofWriter.numberOf r) (ofWriter.placeOf r) (ofWriter.countOf r) 0 0 0 0
+writtenWords r = counted (ofWriter.paper r) (ofWriter.countOf r)
 
 abbrev pub checkedWords : Checked → List ℕ
-checkedWords r = eight (ofChecker.numberOf r) (ofChecker.placeOf r) 0 0 0 0 0
+checkedWords r = counted (ofChecker.paper r) 0
 
 abbrev pub lostWords : Lost → List ℕ
-lostWords r =
-    eight (ofLosses.numberOf r) (ofLosses.placeOf r) (ofLosses.referenceOf r) (ofLosses.usedOf r) (ofLosses.inWindowOf r) (ofLosses.emptyOf r) (ofLosses.gapsOf r)
+lostWords r = let t = ofLosses.figures r in eight (ofLosses.paper r) (t .reference) (t .used) (t .in_window) (t .empty) (t .gaps)
 
 abbrev pub listedWords : Listed → List ℕ
-listedWords r = eight (ofTriggers.numberOf r) (ofTriggers.placeOf r) (ofTriggers.countOf r) 0 0 0 0
+listedWords r = counted (ofTriggers.paper r) (ofTriggers.countOf r)
 
 abbrev pub plannedWords : Planned → List ℕ
-plannedWords r = eight (ofPlanner.numberOf r) (ofPlanner.placeOf r) (ofPlanner.countOf r) 0 0 0 0
+plannedWords r = counted (ofPlanner.paper r) (ofPlanner.countOf r)
 
 abbrev pub respondedWords : Responded → List ℕ
-respondedWords r = eight (ofResponse.number r) (ofResponse.place r) (ofResponse.misses r) 0 0 0 0
+respondedWords r = counted (ofResponse.paper r) (ofResponse.misses r)

@@ -4,51 +4,61 @@ use losses::Lost;
 use planner::Planned;
 use reader::Read;
 use response::Responded;
+use rules::Paper;
 use rules::Refusal;
 use triggers::Listed;
 use writer::Written;
 ghost use mathlib.Core.Path.{_≡_};
 ghost use Prim.Native.Nat.{_<_};
-ghost use Rattle.rules.specs.Refusal.{number as numberOf, place as placeOf};
+ghost use Rattle.rules.specs.Paper.{done, refused};
 ghost use Rattle.reader.specs.Promise.{Reading};
 ghost use Rattle.writer.specs.Promise.{Writing};
 ghost use Rattle.checker.specs.Promise.{Checking};
 ghost use Rattle.losses.specs.Promise.{Losing};
-ghost use Rattle.triggers.specs.Promise.{Promise as Listing};
+ghost use Rattle.triggers.specs.Promise.{Listing};
 ghost use Rattle.planner.specs.Promise.{Planning};
-ghost use Rattle.response.specs.Answers.{Outcome};
-ghost use Rattle.ffynorwel.specs.Eight.{eight, readWords, writtenWords, checkedWords, lostWords, listedWords, plannedWords, respondedWords};
+ghost use Rattle.response.specs.Promise.{Responding};
+ghost use Rattle.ffynorwel.specs.Eight.{eight, counted, readWords, writtenWords, checkedWords, lostWords, listedWords, plannedWords, respondedWords};
 ghost use Rattle.ffynorwel.specs.Handed.{Handed};
 
 // Stores number, place and figures; no answer has a second place yet.
-fn store(answer: &mut [u32; 8], number: u32, place: u32, a: u32, b: u32, c: u32, d: u32, e: u32)
-    ensures { λ _. ⌜ now (answer .exit) ≡ eight number place a b c d e ⌝ }
+fn store(answer: &mut [u32; 8], paper: Paper, a: u32, b: u32, c: u32, d: u32, e: u32)
+    ensures { λ _. ⌜ now (answer .exit) ≡ eight paper a b c d e ⌝ }
 {
-    *answer = [number, place, 0, a, b, c, d, e];
+    *answer = [paper.number, paper.place, 0, a, b, c, d, e];
 }
 
 // Stores a refusal.
 fn refuse(answer: &mut [u32; 8], q: Refusal)
-    ensures { λ _. ⌜ now (answer .exit) ≡ eight (numberOf q) (placeOf q) 0 0 0 0 0 ⌝ }
+    ensures { λ _. ⌜ now (answer .exit) ≡ counted (refused q) 0 ⌝ }
+{
+    store(answer, rules::paper_of(q), 0, 0, 0, 0, 0);
+}
+
+// Stores that the call is done, with its figures.
+fn finish(answer: &mut [u32; 8], a: u32, b: u32, c: u32, d: u32, e: u32)
+    ensures { λ _. ⌜ now (answer .exit) ≡ eight done a b c d e ⌝ }
 {
     store(
         answer,
-        rules::number_of(q),
-        rules::place_of(q),
-        0,
-        0,
-        0,
-        0,
-        0,
+        Paper {
+            number: 0,
+            place: 0,
+        },
+        a,
+        b,
+        c,
+        d,
+        e,
     );
 }
 
 // Stores that the call is done and wrote so much.
 fn wrote(answer: &mut [u32; 8], count: usize)
     requires { ⌜ count < 4294967296 ⌝ }
-    ensures { λ _. ⌜ now (answer .exit) ≡ eight 0 0 count 0 0 0 0 ⌝ }
+    ensures { λ _. ⌜ now (answer .exit) ≡ counted done count ⌝ }
 {
-    store(answer, 0, 0, count as u32, 0, 0, 0, 0);
+    finish(answer, count as u32, 0, 0, 0, 0);
 }
 
 // reader::read; the figure is how many words were written.
@@ -94,16 +104,7 @@ pub extern "C" fn ffy_losses(file: &[u8], proposal: &[u32], answer: &mut [u32; 8
 {
     let got = losses::losses(file, proposal);
     match got {
-        Lost::Figures(t) => store(
-            answer,
-            0,
-            0,
-            t.reference,
-            t.used,
-            t.in_window,
-            t.empty,
-            t.gaps,
-        ),
+        Lost::Figures(t) => finish(answer, t.reference, t.used, t.in_window, t.empty, t.gaps),
         Lost::Refused(q) => refuse(answer, q),
     }
 }
@@ -135,11 +136,11 @@ pub extern "C" fn ffy_plan(file: &[u8], proposal: &mut [u32], answer: &mut [u32;
 // response::responses; the figure is how many events miss their deadlines.
 #[no_mangle]
 pub extern "C" fn ffy_responses(events: &[u32], times: &mut [u32], answer: &mut [u32; 8])
-    ensures { λ _. ⌜ Handed (Outcome (now (events .entry)) (now (times .entry)) (now (times .exit))) respondedWords (now (answer .exit)) ⌝ }
+    ensures { λ _. ⌜ Handed (Responding (now (events .entry)) (now (times .entry)) (now (times .exit))) respondedWords (now (answer .exit)) ⌝ }
 {
     let got = response::responses(events, times);
     match got {
-        Responded::Done(misses) => store(answer, 0, 0, misses, 0, 0, 0, 0),
+        Responded::Done(misses) => finish(answer, misses, 0, 0, 0, 0),
         Responded::Refused(q) => refuse(answer, q),
     }
 }

@@ -10,22 +10,23 @@ use lib.Dec.{T, eqb, eqb→eq}
 use lib.ListN.{length, drop, replicate, length-replicate}
 use Rattle.basics.specs.Bits.{bit}
 use Rattle.basics.specs.Sums.{sum, largest}
-use Rattle.basics.specs.Tests.{every, some as someOf}
+use Rattle.basics.specs.Tests.{some as someOf}
 use Rattle.basics.proofs.Tests.{left, right}
 use Rattle.rules.specs.declared.Fault.{Fault}
 use Rattle.rules.specs.declared.Fault.the-variants.{Clear, Bad}
-use Rattle.rules.specs.Problem.{messages, earliest, triggers, frame}
+use Rattle.rules.specs.Problem.{earliest, triggers, frame, proposalWords, WellFormed}
 use Rattle.rules.specs.Sends.{sendAt}
-use Rattle.rules.specs.Refusal.{firstFault}
-use Rattle.rules.specs.Rules.{headerWrong, columnWrong, repeated, identityWrong, onGrid, timingWrong, overloaded, wellFormed}
-use Rattle.rules.specs.Tests.{inRange, fits, wait, timely, common, meets, clear, ownFault, fault, proposalFault}
+use Rattle.rules.specs.Refusal.{isClear, firstFault}
+use Rattle.rules.specs.declared.Paper.{Paper}
+use Rattle.rules.specs.Paper.{at, paperOf}
+use Rattle.rules.specs.Rules.{headerFault, columnWrong, repeated, identityWrong, onGrid, timingWrong, overloaded, wordsFault, problemFault}
+use Rattle.rules.specs.Tests.{inRange, fits, wait, timely, common, meets, ownFault, meetingFault, fault, proposalFault}
 use Rattle.rules.proofs.Exact.{exact}
-use Rattle.rules.proofs.Formed.{formed}
-use Rattle.problem.specs.Answers.{numberFor, placeFor}
+use Rattle.rules.proofs.Formed.{problem-kept}
 use Rattle.planner.proofs.Seek.{run, run-least, run-none}
 use Rattle.losses.specs.Losses.{reference, used, startsAt, occupied, inWindow, empty, inColumn, covered, uncovered, gaps}
 use Rattle.losses.proofs.Sum.{losses-sum}
-use Rattle.response.specs.Answers.{zeros}
+use Rattle.response.specs.Promise.{zeros}
 use Rattle.response.specs.Events.{count, repeated as repeatedEvent, eventWrong, eventsFault}
 use Rattle.response.proofs.Computed.{seek as seekTime, time, times, computed}
 use Rattle.tables.specs.Cases.{Case, lasts, plans, plans-none, loses, accepts, refuses, responds, Says}
@@ -45,13 +46,23 @@ same-is [] (y ∷ m) t = absurd t
 same-is (x ∷ l) [] t = absurd t
 same-is (x ∷ l) (y ∷ m) t = ap₂ _∷_ (eqb→eq x y (left (eqb x y) (same l m) t)) (same-is l m (right (eqb x y) (same l m) t))
 
-abbrev isClear : Fault → Bool
-isClear Clear = true
-isClear (Bad q) = false
-
 clear-is : (f : Fault) → T (isClear f) → f ≡ Clear
 clear-is Clear t = refl
 clear-is (Bad q) t = absurd t
+
+-- no rule of a problem is broken
+abbrev wellFormed : List ℕ → Bool
+wellFormed p = isClear (problemFault p)
+
+formed : (p : List ℕ) → T (wellFormed p) → WellFormed p
+formed p t = problem-kept p .0 (clear-is (problemFault p) t)
+
+-- a number and a place
+abbrev isAt : Paper → ℕ → ℕ → Bool
+isAt x n j = eqb (x .number) n && eqb (x .place) j
+
+is-at : (x : Paper) (n j : ℕ) → T (isAt x n j) → x ≡ at n j
+is-at x n j t = ap₂ at (eqb→eq (x .number) n (left (eqb (x .number) n) _ t)) (eqb→eq (x .place) j (right (eqb (x .number) n) _ t))
 
 abbrev is : Option (List ℕ) → List ℕ → Bool
 is (some u) w = same u w
@@ -72,12 +83,12 @@ none-is none t = refl
 -- ---- the test of a case, and the law
 unfoldable holds : Case → Bool
 holds (lasts s c) = eqb (frame s) c
-holds (plans p w) = wellFormed p && (eqb (length w) (2 * messages p) && is (run p) w)
+holds (plans p w) = wellFormed p && (eqb (length w) (proposalWords p) && is (run p) w)
 holds (plans-none p) = wellFormed p && isNone (run p)
 holds (loses p w a b c d e) =
     wellFormed p && (isClear (proposalFault p w) && (eqb (reference p) a && (eqb (used p w) b && (eqb (inWindow p w) c && (eqb (empty p w) d && eqb (gaps p) e)))))
 holds (accepts p w) = wellFormed p && isClear (proposalFault p w)
-holds (refuses p w n j) = wellFormed p && (eqb (numberFor (proposalFault p w)) n && eqb (placeFor (proposalFault p w)) j)
+holds (refuses p w n j) = wellFormed p && isAt (paperOf (proposalFault p w)) n j
 holds (responds e t m) =
     isClear (eventsFault e) && (same (times e ++ drop (count e) (replicate (count e) 0)) t && eqb (zeros (times e) (count e)) m)
 
@@ -85,15 +96,15 @@ holds-says : (x : Case) → T (holds x) → Says x
 unfolding holds
 holds-says (lasts s c) t = eqb→eq _ _ t
 holds-says (plans p w) t =
-    let words : Bool = eqb (length w) (2 * messages p) in
-    let wf = formed p .0 (left (wellFormed p) (words && is (run p) w) t) in
+    let words : Bool = eqb (length w) (proposalWords p) in
+    let wf = formed p (left (wellFormed p) (words && is (run p) w) t) in
     let t₁ = right (wellFormed p) (words && is (run p) w) t in
     (wf, run-least p w wf (is-some (run p) w (right words (is (run p) w) t₁)) (eqb→eq _ _ (left words (is (run p) w) t₁)))
 holds-says (plans-none p) t =
-    let wf = formed p .0 (left (wellFormed p) (isNone (run p)) t) in
+    let wf = formed p (left (wellFormed p) (isNone (run p)) t) in
     (wf, run-none p wf (none-is (run p) (right (wellFormed p) (isNone (run p)) t)))
 holds-says (loses p w a b c d e) t =
-    let wf = formed p .0 (left (wellFormed p) _ t) in
+    let wf = formed p (left (wellFormed p) _ t) in
     let t₁ = right (wellFormed p) _ t in
     let t₂ = right (isClear (proposalFault p w)) _ t₁ in
     let t₃ = right (eqb (reference p) a) _ t₂ in
@@ -115,14 +126,12 @@ holds-says (loses p w a b c d e) t =
       sum-is = omega (arith, losses-sum {p = p} {w = w} (record { formed = wf; faultless = fine }));
     }
 holds-says (accepts p w) t =
-    let wf = formed p .0 (left (wellFormed p) (isClear (proposalFault p w)) t) in
+    let wf = formed p (left (wellFormed p) (isClear (proposalFault p w)) t) in
     let a = exact p w wf .0 (clear-is (proposalFault p w) (right (wellFormed p) (isClear (proposalFault p w)) t)) in
     (wf, a .0, a .1)
 holds-says (refuses p w n j) t =
-    let x : ℕ = numberFor (proposalFault p w) in
-    let y : ℕ = placeFor (proposalFault p w) in
-    let t₁ = right (wellFormed p) (eqb x n && eqb y j) t in
-    (formed p .0 (left (wellFormed p) (eqb x n && eqb y j) t), eqb→eq x n (left (eqb x n) (eqb y j) t₁), eqb→eq y j (right (eqb x n) (eqb y j) t₁))
+    let x : Paper = paperOf (proposalFault p w) in
+    (formed p (left (wellFormed p) (isAt x n j) t), is-at x n j (right (wellFormed p) (isAt x n j) t))
 holds-says (responds e t m) h =
     let d : List ℕ = replicate (count e) 0 in
     let x : List ℕ = times e ++ drop (count e) d in
@@ -146,8 +155,8 @@ each (y ∷ l) t x m =
     (List·Memᴰ·cases-cons m)
 
 table-holds : T (all-hold starred)
-unfolding all-hold starred holds t1 two noMessage events same wellFormed headerWrong columnWrong earliest identityWrong repeated timingWrong onGrid overloaded triggers every someOf sum bit
-    proposalFault firstFault fault ownFault inRange fits wait timely clear meets common used sendAt startsAt occupied inWindow empty inColumn covered uncovered
+unfolding all-hold starred holds t1 two noMessage events same problemFault headerFault wordsFault columnWrong earliest identityWrong repeated timingWrong onGrid overloaded triggers someOf sum bit
+    proposalFault firstFault fault ownFault inRange fits wait timely meetingFault meets common used sendAt startsAt occupied inWindow empty inColumn covered uncovered
     eventsFault eventWrong repeatedEvent largest seekTime time times
 table-holds = tt
 

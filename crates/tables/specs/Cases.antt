@@ -5,13 +5,13 @@ use mathlib.Core.List.{List}
 use lib.ListN.{replicate}
 use Rattle.rules.specs.Problem.{frame, InRange, WellFormed}
 use Rattle.rules.specs.Sends.{Acceptable}
+use Rattle.rules.specs.Paper.{at, paperOf}
 use Rattle.rules.specs.Tests.{proposalFault}
-use Rattle.problem.specs.Answers.{numberFor, placeFor}
 use Rattle.losses.specs.Losses.{matrix, reference, used, inWindow, empty, gaps}
 use Rattle.planner.specs.Least.{Plan, Least}
 use Rattle.response.specs.declared.Responded.the-variants.{Done}
-use Rattle.response.specs.Answers.{Outcome}
 use Rattle.response.specs.Events.{count}
+use Rattle.response.specs.Promise.{Responding}
 
 pub data Case : Type 0 where
   -- a frame of s data bytes takes c
@@ -43,5 +43,5 @@ Says (plans p w) = WellFormed p × Least p w
 Says (plans-none p) = WellFormed p × ((w : List ℕ) → ¬ Plan p w)
 Says (loses p w a b c d e) = Lost p w a b c d e
 Says (accepts p w) = WellFormed p × InRange p w × Acceptable p w
-Says (refuses p w n j) = WellFormed p × (numberFor (proposalFault p w) ≡ n) × (placeFor (proposalFault p w) ≡ j)
-Says (responds e t m) = Outcome e (replicate (count e) 0) t (Done m)
+Says (refuses p w n j) = WellFormed p × (paperOf (proposalFault p w) ≡ at n j)
+Says (responds e t m) = Responding e (replicate (count e) 0) t (Done m)

@@ -4,16 +4,6 @@ use Rattle.ffynorwel.proofs.Handed.{handed}
 use Rattle.ffynorwel.proofs.ffy_check.Statement.{statement}
 use Rattle.ffynorwel.proofs.ffy_check.Tie as tie
 
-returns : tie.Need-returns
-returns c =
-    let told = c .before .before in
-    handed (told .before .before .check .ensures) (told .enum-told .given .1) (c .wrote .ensures)
-
-returns-2 : tie.Need-returns-2
-returns-2 c =
-    let told = c .before .before .before in
-    handed (told .before .before .check .ensures) (told .got .given .1) (c .refuse .ensures)
-
 pub ffy-check-spec : {M : Type 1} → statement M
 ffy-check-spec =
     tie.close
@@ -23,5 +13,5 @@ ffy-check-spec =
     (λ c κs. search needs)
     (λ c. search needs)
     (λ c κs. search needs)
-    returns
-    returns-2)
+    (λ c. handed (c .before .before .before .before .check .ensures) (c .before .before .enum-told .given .1) (c .wrote .ensures))
+    (λ c. handed (c .before .before .before .before .before .check .ensures) (c .before .before .before .got .given .1) (c .refuse .ensures)))

@@ -4,16 +4,6 @@ use Rattle.ffynorwel.proofs.Handed.{handed}
 use Rattle.ffynorwel.proofs.ffy_losses.Statement.{statement}
 use Rattle.ffynorwel.proofs.ffy_losses.Tie as tie
 
-returns : tie.Need-returns
-returns c =
-    let told = c .before .before .before in
-    handed (told .before .before .losses .ensures) (told .got .given .1) (c .store .ensures)
-
-returns-2 : tie.Need-returns-2
-returns-2 c =
-    let told = c .before .before .before in
-    handed (told .before .before .losses .ensures) (told .got2 .given .1) (c .refuse .ensures)
-
 pub ffy-losses-spec : {M : Type 1} → statement M
 ffy-losses-spec =
     tie.close
@@ -23,5 +13,5 @@ ffy-losses-spec =
     (λ c κs. search needs)
     (λ c. search needs)
     (λ c κs. search needs)
-    returns
-    returns-2)
+    (λ c. handed (c .before .before .before .before .before .losses .ensures) (c .before .before .before .got .given .1) (c .finish .ensures))
+    (λ c. handed (c .before .before .before .before .before .losses .ensures) (c .before .before .before .got2 .given .1) (c .refuse .ensures)))

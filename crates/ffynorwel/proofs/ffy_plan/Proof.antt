@@ -5,31 +5,16 @@ use Rattle.ffynorwel.proofs.Handed.{handed}
 use Rattle.ffynorwel.proofs.ffy_plan.Statement.{statement}
 use Rattle.ffynorwel.proofs.ffy_plan.Tie as tie
 
-wrote-requires : tie.Need-wrote-requires
-wrote-requires c κs =
-    let told = c .before .before in
-    plan-fits (told .before .before .before .before .plan .ensures) (told .got .given .1)
-
-returns : tie.Need-returns
-returns c =
-    let told = c .before .before .before in
-    handed (told .before .before .before .before .plan .ensures) (told .got .given .1) (c .wrote .ensures)
-
-returns-2 : tie.Need-returns-2
-returns-2 c =
-    let told = c .before .before .before in
-    handed (told .before .before .before .before .plan .ensures) (told .got2 .given .1) (c .refuse .ensures)
-
 pub ffy-plan-spec : {M : Type 1} → statement M
 ffy-plan-spec =
     tie.close
     (tie.spec
     (λ c κs. search needs)
     (λ c. search needs)
-    wrote-requires
+    (λ c κs. plan-fits _ (c .before .before .before .before .before .before .plan .ensures) (c .before .before .got .given .1))
     (λ c. search needs)
     (λ c κs. search needs)
     (λ c. search needs)
-    returns
+    (λ c. handed (c .before .before .before .before .before .before .before .plan .ensures) (c .before .before .before .got .given .1) (c .wrote .ensures))
     (λ c. search needs)
-    returns-2)
+    (λ c. handed (c .before .before .before .before .before .before .before .plan .ensures) (c .before .before .before .got2 .given .1) (c .refuse .ensures)))

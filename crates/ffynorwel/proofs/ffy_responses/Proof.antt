@@ -4,16 +4,6 @@ use Rattle.ffynorwel.proofs.Handed.{handed}
 use Rattle.ffynorwel.proofs.ffy_responses.Statement.{statement}
 use Rattle.ffynorwel.proofs.ffy_responses.Tie as tie
 
-returns : tie.Need-returns
-returns c =
-    let told = c .before .before .before in
-    handed (told .before .before .before .before .responses .ensures) (told .got .given .1) (c .store .ensures)
-
-returns-2 : tie.Need-returns-2
-returns-2 c =
-    let told = c .before .before .before in
-    handed (told .before .before .before .before .responses .ensures) (told .got2 .given .1) (c .refuse .ensures)
-
 pub ffy-responses-spec : {M : Type 1} → statement M
 ffy-responses-spec =
     tie.close
@@ -24,6 +14,6 @@ ffy-responses-spec =
     (λ c. search needs)
     (λ c κs. search needs)
     (λ c. search needs)
-    returns
+    (λ c. handed (c .before .before .before .before .before .before .before .responses .ensures) (c .before .before .before .got .given .1) (c .finish .ensures))
     (λ c. search needs)
-    returns-2)
+    (λ c. handed (c .before .before .before .before .before .before .before .responses .ensures) (c .before .before .before .got2 .given .1) (c .refuse .ensures)))
