@@ -1,12 +1,18 @@
 // Document 001: the 30 messages of its hard class, FL2 to RR31, in 32 rows of 800 with columns at 200, 400 and 600.
 use crate::build;
 use crate::show;
-ghost use Prim.Native.Nat.{_≤_};
-ghost use lib.ListN.{length};
+use rules::words::MOST_WORDS;
+ghost use Rattle.io.specs.Counts.{Counts};
+
+// Where the first message's deadline stands.
+const FIRST_DEADLINE: usize = 19;
+
+// Where the last message's deadline stands.
+const LAST_DEADLINE: usize = 222;
 
 // Each is released when the document sends it and is due as soon as a frame of 8 bytes can end. The nodes FL, FR, RL, RR, Env and HMICom are 0 to 5.
 fn hard(words: &mut [u32]) -> usize
-    ensures { λ r. ⌜ r ≤ length (now (words .exit)) ⌝ }
+    ensures { λ r. ⌜ Counts r (now (words .exit)) ⌝ }
 {
     build::problem(
         b"32 800 65 0 32 3 30",
@@ -57,23 +63,23 @@ fn table_4_2(title: &[u8], problem: &[u32], number: u32, place: u32) {
     );
 }
 
-// Words 19 and 222 are the deadlines of the first and the last message.
+// Every case of the document.
 pub fn run() {
     paper::text(b"Document 001\n");
-    let mut p = [0u32; 519];
+    let mut p = [0u32; MOST_WORDS];
     let n = hard(&mut p);
-    table_4_2(b"table 4.2, all due 135 after release", &p[0..n], 0, 0);
-    build::set(&mut p, 222, 134);
+    table_4_2(b"table 4.2, all due 135 after release", &p[..n], 0, 0);
+    build::set(&mut p, LAST_DEADLINE, 134);
     table_4_2(
         b"table 4.2, the last due 134 after release",
-        &p[0..n],
+        show::front(&p, n),
         12,
         29,
     );
-    build::set(&mut p, 19, 134);
+    build::set(&mut p, FIRST_DEADLINE, 134);
     table_4_2(
         b"table 4.2, the first due 134 after release",
-        &p[0..n],
+        show::front(&p, n),
         12,
         0,
     );

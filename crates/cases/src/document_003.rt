@@ -1,12 +1,12 @@
 // Document 003: 16 messages of 8 bytes in 8 rows of 2500, and the matrices of its figures 2 to 4, whose windows 1 to 16 are the columns.
 use crate::build;
 use crate::show;
-ghost use Prim.Native.Nat.{_≤_};
-ghost use lib.ListN.{length};
+use rules::words::MOST_WORDS;
+ghost use Rattle.io.specs.Counts.{Counts};
 
 // Identifiers 51, 52, 53, 101 to 105, 201 to 204 and 401 to 404, hexadecimal, the reference F0; node 0 sends all to node 1.
 fn example(words: &mut [u32]) -> usize
-    ensures { λ r. ⌜ r ≤ length (now (words .exit)) ⌝ }
+    ensures { λ r. ⌜ Counts r (now (words .exit)) ⌝ }
 {
     build::problem(
         b"8 2500 78 240 32 16 16",
@@ -95,9 +95,9 @@ fn figures(problem: &[u32]) {
 // Every case of the document.
 pub fn run() {
     paper::text(b"Document 003\n");
-    let mut p = [0u32; 519];
+    let mut p = [0u32; MOST_WORDS];
     let n = example(&mut p);
-    show::round_trip(b"the example", &p[0..n]);
-    planned(&p[0..n]);
-    figures(&p[0..n]);
+    show::round_trip(b"the example", &p[..n]);
+    planned(&p[..n]);
+    figures(&p[..n]);
 }

@@ -1,12 +1,18 @@
 // Document 01: the plans worked by hand, and the slips.
 use crate::build;
 use crate::show;
-ghost use Prim.Native.Nat.{_≤_};
-ghost use lib.ListN.{length};
+use rules::words::MOST_WORDS;
+ghost use Rattle.io.specs.Counts.{Counts};
 
-// T1: two rows of 400 with three columns, and three messages. Its word 26 is message 32's deadline, its word 32 message 48's offset.
+// Where message 32's deadline stands in T1.
+const DEADLINE_32: usize = 26;
+
+// Where message 48's offset stands in T1.
+const OFFSET_48: usize = 32;
+
+// T1: two rows of 400 with three columns, and three messages.
 fn t1(words: &mut [u32]) -> usize
-    ensures { λ r. ⌜ r ≤ length (now (words .exit)) ⌝ }
+    ensures { λ r. ⌜ Counts r (now (words .exit)) ⌝ }
 {
     build::problem(
         b"2 400 65 1 32 3 3",
@@ -57,54 +63,59 @@ fn t1_lists(problem: &[u32]) {
 
 // T1 as it stands, and a proposal that lets two messages meet.
 fn first() {
-    let mut p = [0u32; 519];
+    let mut p = [0u32; MOST_WORDS];
     let n = t1(&mut p);
-    show::round_trip(b"T1", &p[0..n]);
-    show::plan(b"T1", &p[0..n], 0, b"0 0 1 1 1 0");
-    show::check(b"T1 and its plan", &p[0..n], b"0 0 1 1 1 0", 0, 0);
+    show::round_trip(b"T1", &p[..n]);
+    show::plan(b"T1", &p[..n], 0, b"0 0 1 1 1 0");
+    show::check(b"T1 and its plan", &p[..n], b"0 0 1 1 1 0", 0, 0);
     show::losses(
         b"T1 and its plan",
-        &p[0..n],
+        &p[..n],
         b"0 0 1 1 1 0",
         b"130 430 40 200 0",
     );
-    t1_lists(&p[0..n]);
-    show::check(b"T1 and 0 0 1 1 1 1", &p[0..n], b"0 0 1 1 1 1", 13, 2);
+    t1_lists(&p[..n]);
+    show::check(b"T1 and 0 0 1 1 1 1", &p[..n], b"0 0 1 1 1 1", 13, 2);
 }
 
 // Message 32 can be sent by 265 after its release and no earlier.
 fn deadlines() {
-    let mut p = [0u32; 519];
+    let mut p = [0u32; MOST_WORDS];
     let n = t1(&mut p);
-    build::set(&mut p, 26, 265);
+    build::set(&mut p, DEADLINE_32, 265);
     show::plan(
         b"T1 with deadline 265 for message 32",
-        &p[0..n],
+        show::front(&p, n),
         0,
         b"0 0 1 1 1 0",
     );
-    build::set(&mut p, 26, 264);
-    show::plan(b"T1 with deadline 264 for message 32", &p[0..n], 14, b"");
+    build::set(&mut p, DEADLINE_32, 264);
+    show::plan(
+        b"T1 with deadline 264 for message 32",
+        show::front(&p, n),
+        14,
+        b"",
+    );
 }
 
 // T1's grid with no messages.
 fn no_messages() {
-    let mut p = [0u32; 519];
+    let mut p = [0u32; MOST_WORDS];
     let n = build::problem(
         b"2 400 65 1 32 3 0",
         b"65 135  200 100  300 100",
         b"",
         &mut p,
     );
-    show::check(b"no messages and the empty proposal", &p[0..n], b"", 0, 0);
+    show::check(b"no messages and the empty proposal", &p[..n], b"", 0, 0);
     show::check(
         b"no messages and a proposal of two words",
-        &p[0..n],
+        &p[..n],
         b"0 0",
         9,
         0,
     );
-    show::plan(b"no messages", &p[0..n], 0, b"");
+    show::plan(b"no messages", &p[..n], 0, b"");
 }
 
 // The events of the table, and a deadline that is one short of the response.
@@ -125,7 +136,7 @@ fn events() {
 
 // First fit places the message of 4 bytes in the one column that has room for the other.
 fn first_fit() {
-    let mut p = [0u32; 519];
+    let mut p = [0u32; MOST_WORDS];
     let n = build::problem(
         b"2 400 65 1 32 3 2",
         b"65 135  200 100  300 100",
@@ -135,7 +146,7 @@ fn first_fit() {
     );
     show::plan(
         b"4 bytes, then 8 bytes, on T1's grid",
-        &p[0..n],
+        &p[..n],
         0,
         b"1 0 0 0",
     );
@@ -143,19 +154,19 @@ fn first_fit() {
 
 // A send before the first release carries nothing, and the next one serves; rows are compared modulo the smaller repeat.
 fn offset_and_repeats() {
-    let mut p = [0u32; 519];
+    let mut p = [0u32; MOST_WORDS];
     let n = t1(&mut p);
     show::check(
         b"T1 with message 32 in row 1 of message 16's column",
-        &p[0..n],
+        &p[..n],
         b"0 0 0 1 1 0",
         13,
         1,
     );
-    build::set(&mut p, 32, 700);
+    build::set(&mut p, OFFSET_48, 700);
     show::check(
         b"T1 with offset 700 for message 48",
-        &p[0..n],
+        show::front(&p, n),
         b"0 0 1 1 1 0",
         0,
         0,
@@ -164,7 +175,7 @@ fn offset_and_repeats() {
 
 // Nothing is due in the first matrix cycle, and still no instance is served.
 fn beyond_the_first_cycle() {
-    let mut p = [0u32; 519];
+    let mut p = [0u32; MOST_WORDS];
     let n = build::problem(
         b"1 400 65 1 32 1 1",
         b"200 100",
@@ -173,14 +184,14 @@ fn beyond_the_first_cycle() {
     );
     show::check(
         b"released at 350, due at 450, sent at 200",
-        &p[0..n],
+        &p[..n],
         b"0 0",
         12,
         0,
     );
     show::plan(
         b"released at 350, due at 450, one column at 200",
-        &p[0..n],
+        &p[..n],
         14,
         b"",
     );

@@ -1,7 +1,32 @@
 // The largest matrix, full, and a bus that has more to send than it can.
 use crate::build;
 use crate::show;
+use rules::words::MOST_WORDS;
 ghost use Prim.Native.Nat.{_<_};
+
+// The most columns that a problem has.
+const COLUMNS: usize = 32;
+
+// The most messages that a problem has.
+const MESSAGES: usize = 64;
+
+// The words of a problem's header.
+const HEADER_WORDS: usize = 7;
+
+// The words of a column.
+const COLUMN_WORDS: usize = 2;
+
+// The words of a message.
+const MESSAGE_WORDS: usize = 7;
+
+// Where the first message stands in a problem of so many columns.
+const FIRST_MESSAGE: usize = HEADER_WORDS + COLUMN_WORDS * COLUMNS;
+
+// How long the reference is; the first column starts behind it.
+const REFERENCE: u32 = 65;
+
+// How wide each column is.
+const WIDTH: u32 = 2045;
 
 // The nodes that receive what a node sends: the next six.
 fn receivers(node: usize) -> u32 {
@@ -25,24 +50,24 @@ fn receivers(node: usize) -> u32 {
     }
 }
 
-// Column c: all are 2045 wide, one behind the other.
-fn column(c: usize) -> [u32; 2]
+// Column c: all are of one width, one behind the other.
+fn column(c: usize) -> [u32; COLUMN_WORDS]
     requires { ⌜ c < 32 ⌝ }
 {
-    [65 + 2045 * c as u32, 2045]
+    [REFERENCE + WIDTH * c as u32, WIDTH]
 }
 
 // The 32 columns, behind the header.
 fn columns(words: &mut [u32]) {
     let mut c: usize = 0;
-    while c < 32 {
-        build::put(&column(c), 7 + 2 * c, words);
+    while c < COLUMNS {
+        build::put(&column(c), HEADER_WORDS + COLUMN_WORDS * c, words);
         c += 1;
     }
 }
 
 // Message j, of 8 bytes and in every second row, from node j mod 16.
-fn message(j: usize) -> [u32; 7]
+fn message(j: usize) -> [u32; MESSAGE_WORDS]
     requires { ⌜ j < 64 ⌝ }
 {
     [
@@ -59,16 +84,16 @@ fn message(j: usize) -> [u32; 7]
 // The 64 messages, behind the columns.
 fn messages(words: &mut [u32]) {
     let mut j: usize = 0;
-    while j < 64 {
-        build::put(&message(j), 71 + 7 * j, words);
+    while j < MESSAGES {
+        build::put(&message(j), FIRST_MESSAGE + MESSAGE_WORDS * j, words);
         j += 1;
     }
 }
 
 // 64 rows, 32 columns and 64 messages, the most that a problem has.
 fn full() {
-    let mut p = [0u32; 519];
-    build::put(&[64, 65535, 65, 0, 32, 32, 64], 0, &mut p);
+    let mut p = [0u32; MOST_WORDS];
+    build::put(&[64, 65535, REFERENCE, 0, 32, 32, 64], 0, &mut p);
     columns(&mut p);
     messages(&mut p);
     show::round_trip(b"64 rows, 32 columns, 64 messages", &p);

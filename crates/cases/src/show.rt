@@ -6,10 +6,19 @@ use losses::Lost;
 use planner::Planned;
 use response::Responded;
 use rules::Refusal;
+use rules::words::MOST_WORDS;
 use triggers::Listed;
 use writer::Written;
-ghost use Prim.Native.Nat.{_≤_};
-ghost use lib.ListN.{length};
+ghost use Rattle.io.specs.Counts.{Counts};
+
+// The most events.
+const EVENTS: usize = 64;
+
+// The words of an event.
+const EVENT_WORDS: usize = 5;
+
+// The most words that a case here wants.
+const WANTED_WORDS: usize = 256;
 
 // Whether two lists of words are the same.
 fn is_same(a: &[u32], b: &[u32]) -> bool {
@@ -24,16 +33,16 @@ fn is_same(a: &[u32], b: &[u32]) -> bool {
 }
 
 // The front of a buffer, or all of it where there is less.
-fn front(words: &[u32], n: usize) -> &[u32] {
+pub fn front(words: &[u32], n: usize) -> &[u32] {
     if words.len() < n {
         return words;
     }
-    &words[0..n]
+    &words[..n]
 }
 
 // The file of a problem in the front of a buffer, none where it is not well-formed; answers its length.
 fn file_of(problem: &[u32], file: &mut [u8]) -> usize
-    ensures { λ r. ⌜ r ≤ length (now (file .exit)) ⌝ }
+    ensures { λ r. ⌜ Counts r (now (file .exit)) ⌝ }
 {
     let written = writer::write(problem, file);
     let Written::File(n) = written else {
@@ -63,25 +72,28 @@ fn end(is_right: bool) {
 
 // Shows a refusal where the document wants the refusal of a number and a place, or none.
 fn end_refused(q: Refusal, number: u32, place: u32) {
+    let told = rules::paper_of(q);
+    let is = told.number;
+    let at = told.place;
     paper::text(b"refused ");
-    paper::number(rules::number_of(q));
+    paper::number(is);
     paper::text(b", place ");
-    paper::number(rules::place_of(q));
-    end((rules::number_of(q) == number) & (rules::place_of(q) == place));
+    paper::number(at);
+    end((is == number) & (at == place));
 }
 
 // Whether words start with those of a text.
 fn starts_with(words: &[u32], text: &[u8]) -> bool {
-    let mut w = [0u32; 256];
+    let mut w = [0u32; WANTED_WORDS];
     let n = build::words(text, &mut w);
-    is_same(front(words, n), &w[0..n])
+    is_same(front(words, n), &w[..n])
 }
 
 // Whether words are those of a text.
 fn is_text(words: &[u32], text: &[u8]) -> bool {
-    let mut w = [0u32; 256];
+    let mut w = [0u32; WANTED_WORDS];
     let n = build::words(text, &mut w);
-    is_same(words, &w[0..n])
+    is_same(words, &w[..n])
 }
 
 // Shows words that came out where the document wants these words, or the refusal of a number.
@@ -95,12 +107,12 @@ fn end_words(words: &[u32], number: u32, wanted: &[u8]) {
 
 // A proposal checked: the number and the place that the document wants, 0 and 0 where it is accepted.
 pub fn check(title: &[u8], problem: &[u32], proposal: &[u8], number: u32, place: u32) {
-    let mut file = [0u8; 1296];
+    let mut file = [0u8; problem::MOST_BYTES];
     let n = file_of(problem, &mut file);
-    let mut w = [0u32; 128];
+    let mut w = [0u32; rules::words::MOST_PROPOSAL];
     let m = build::words(proposal, &mut w);
     start(title, b", checked: ");
-    let got = checker::check(&file[0..n], &w[0..m]);
+    let got = checker::check(&file[..n], &w[..m]);
     match got {
         Checked::Accepted => {
             paper::text(b"accepted");
@@ -112,11 +124,11 @@ pub fn check(title: &[u8], problem: &[u32], proposal: &[u8], number: u32, place:
 
 // A problem planned: the proposal that the document wants, or the number of the refusal.
 pub fn plan(title: &[u8], problem: &[u32], number: u32, wanted: &[u8]) {
-    let mut file = [0u8; 1296];
+    let mut file = [0u8; problem::MOST_BYTES];
     let n = file_of(problem, &mut file);
-    let mut proposal = [0u32; 32];
+    let mut proposal = [0u32; planner::PLAN_WORDS];
     start(title, b", planned: ");
-    let got = planner::plan(&file[0..n], &mut proposal);
+    let got = planner::plan(&file[..n], &mut proposal);
     match got {
         Planned::Proposal(m) => end_words(front(&proposal, m), number, wanted),
         Planned::Refused(q) => end_refused(q, number, 0),
@@ -130,12 +142,12 @@ fn figures(t: BusTime) -> [u32; 5] {
 
 // The losses of an acceptable proposal.
 pub fn losses(title: &[u8], problem: &[u32], proposal: &[u8], wanted: &[u8]) {
-    let mut file = [0u8; 1296];
+    let mut file = [0u8; problem::MOST_BYTES];
     let n = file_of(problem, &mut file);
-    let mut w = [0u32; 128];
+    let mut w = [0u32; rules::words::MOST_PROPOSAL];
     let m = build::words(proposal, &mut w);
     start(title, b", losses: ");
-    let got = losses::losses(&file[0..n], &w[0..m]);
+    let got = losses::losses(&file[..n], &w[..m]);
     match got {
         Lost::Figures(t) => end_words(&figures(t), 0, wanted),
         Lost::Refused(q) => end_refused(q, 0, 0),
@@ -146,19 +158,19 @@ pub fn losses(title: &[u8], problem: &[u32], proposal: &[u8], wanted: &[u8]) {
 fn end_lists(words: &[u32], count: usize, wanted: &[u8]) {
     paper::count(words.len());
     paper::text(b" words, counts ");
-    paper::words(front(words, 16));
+    paper::words(front(words, triggers::NODES));
     end((words.len() == count) & starts_with(words, wanted));
 }
 
 // The trigger lists of an acceptable proposal.
 pub fn lists(title: &[u8], problem: &[u32], proposal: &[u8], count: usize, wanted: &[u8]) {
-    let mut file = [0u8; 1296];
+    let mut file = [0u8; problem::MOST_BYTES];
     let n = file_of(problem, &mut file);
-    let mut w = [0u32; 128];
+    let mut w = [0u32; rules::words::MOST_PROPOSAL];
     let m = build::words(proposal, &mut w);
-    let mut words = [0u32; 2064];
+    let mut words = [0u32; triggers::MOST_WORDS];
     start(title, b", trigger lists: ");
-    let got = triggers::lists(&file[0..n], &w[0..m], &mut words);
+    let got = triggers::lists(&file[..n], &w[..m], &mut words);
     match got {
         Listed::Lists(k) => end_lists(front(&words, k), count, wanted),
         Listed::Refused(q) => end_refused(q, 0, 0),
@@ -167,14 +179,14 @@ pub fn lists(title: &[u8], problem: &[u32], proposal: &[u8], count: usize, wante
 
 // Response times: the times that the document wants, and how many are missed.
 pub fn responses(title: &[u8], events: &[u8], wanted: &[u8], misses: u32) {
-    let mut e = [0u32; 320];
+    let mut e = [0u32; EVENTS * EVENT_WORDS];
     let n = build::words(events, &mut e);
-    let mut times = [0u32; 64];
+    let mut times = [0u32; EVENTS];
     start(title, b", response times: ");
-    let got = response::responses(&e[0..n], &mut times);
+    let got = response::responses(&e[..n], &mut times);
     match got {
         Responded::Done(missed) => {
-            let came = front(&times, n / 5);
+            let came = front(&times, n / EVENT_WORDS);
             paper::words(came);
             paper::text(b", missed ");
             paper::number(missed);
@@ -186,11 +198,11 @@ pub fn responses(title: &[u8], events: &[u8], wanted: &[u8], misses: u32) {
 
 // A problem written as a file and read back: the same words come.
 pub fn round_trip(title: &[u8], problem: &[u32]) {
-    let mut file = [0u8; 1296];
+    let mut file = [0u8; problem::MOST_BYTES];
     let n = file_of(problem, &mut file);
-    let mut words = [0u32; 519];
+    let mut words = [0u32; MOST_WORDS];
     start(title, b", written and read back: ");
-    let got = reader::read(&file[0..n], &mut words);
+    let got = reader::read(&file[..n], &mut words);
     match got {
         reader::Read::Problem(m) => {
             paper::count(n);

@@ -13,7 +13,7 @@ use triggers::Listed;
 ghost use Rattle.rules.specs.Problem.{WellFormed};
 
 // The node that stands for all of them.
-const ALL_NODES: usize = 16;
+const ALL_NODES: usize = triggers::NODES;
 
 // What the first argument asks for.
 enum Command {
@@ -67,7 +67,7 @@ fn present(view: View, p: &[u32], w: &[u32])
 
 // Reads a problem file and shows it, or says why it is refused.
 fn show(view: View, file: &[u8], w: &[u32]) {
-    let mut words = [0u32; 519];
+    let mut words = [basics::FILL; rules::words::MOST_WORDS];
     let got = reader::decode(file, &mut words);
     let Read::Problem(n) = got else {
         reasons::refuse(reader::answer::refusal_of(got));
@@ -111,7 +111,7 @@ fn show_losses(file: &[u8], w: &[u32]) {
 }
 
 // Fills a buffer with the trigger lists, or says why there are none.
-fn fill_lists(file: &[u8], w: &[u32], lists: &mut [u32; 2064]) -> bool {
+fn fill_lists(file: &[u8], w: &[u32], lists: &mut [u32; triggers::MOST_WORDS]) -> bool {
     let got = triggers::lists(file, w, lists);
     match got {
         Listed::Refused(q) => {
@@ -124,7 +124,7 @@ fn fill_lists(file: &[u8], w: &[u32], lists: &mut [u32; 2064]) -> bool {
 
 // The list of one node, or of all if there is no such node.
 fn show_lists(file: &[u8], w: &[u32], node: usize) {
-    let mut lists = [0u32; 2064];
+    let mut lists = [0u32; triggers::MOST_WORDS];
     let is_done = fill_lists(file, w, &mut lists);
     if is_done {
         paper::line(b"done");
@@ -134,7 +134,7 @@ fn show_lists(file: &[u8], w: &[u32], node: usize) {
 
 // Shows the least acceptable proposal as a word list, which can be checked as it stands.
 fn plan(file: &[u8]) {
-    let mut proposal = [0u32; 32];
+    let mut proposal = [0u32; planner::PLAN_WORDS];
     let got = planner::plan(file, &mut proposal);
     match got {
         Planned::Refused(q) => reasons::refuse(q),
@@ -185,7 +185,7 @@ fn on_proposal(command: Command, node: usize) {
     if !got.is_good {
         return;
     }
-    let mut words = [0u32; 1024];
+    let mut words = [0u32; input::LIST_WORDS];
     let told = input::words(3, &mut words);
     if !told.is_good {
         return;
@@ -216,7 +216,7 @@ fn on_lists(arguments: usize) {
 
 // The response times of events.
 fn on_events() {
-    let mut words = [0u32; 1024];
+    let mut words = [0u32; input::LIST_WORDS];
     let got = input::words(2, &mut words);
     if !got.is_good {
         return;
@@ -227,13 +227,13 @@ fn on_events() {
 
 // The file of a problem's words: a line that says done, and behind it the bytes.
 fn on_words() {
-    let mut words = [0u32; 1024];
+    let mut words = [0u32; input::LIST_WORDS];
     let got = input::words(2, &mut words);
     if !got.is_good {
         return;
     }
     let n = got.count;
-    let mut bytes = [0u8; 1296];
+    let mut bytes = [0u8; problem::MOST_BYTES];
     let told = input::written(&words[..n], &mut bytes);
     if !told.is_good {
         return;
@@ -248,7 +248,7 @@ fn on_example() {
     let mut words = [0u32; 151];
     let got = example::words(&mut words);
     let n = got.count;
-    let mut bytes = [0u8; 1296];
+    let mut bytes = [0u8; problem::MOST_BYTES];
     let told = input::written(&words[..n], &mut bytes);
     if !told.is_good {
         return;
@@ -259,7 +259,7 @@ fn on_example() {
 
 // Plans a problem and shows all of it: the matrix, the losses and the list of node 0.
 fn show_example(file: &[u8]) {
-    let mut proposal = [0u32; 32];
+    let mut proposal = [0u32; planner::PLAN_WORDS];
     let got = planner::plan(file, &mut proposal);
     match got {
         Planned::Refused(q) => reasons::refuse(q),
@@ -273,7 +273,7 @@ fn show_example(file: &[u8]) {
 
 // Shows the list of node 0 behind what has been shown.
 fn show_first_list(file: &[u8], w: &[u32]) {
-    let mut lists = [0u32; 2064];
+    let mut lists = [0u32; triggers::MOST_WORDS];
     let is_done = fill_lists(file, w, &mut lists);
     if is_done {
         paper::end_line();

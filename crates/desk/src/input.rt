@@ -3,6 +3,9 @@ use super::reasons;
 use writer::Written;
 ghost use Rattle.io.specs.Counts.{Counts};
 
+// The most words of a word list.
+pub const LIST_WORDS: usize = 1024;
+
 // What was read: so many bytes or words, in the front of the buffer that was lent. If it is not good, that has been said.
 pub struct Taken {
     pub is_good: bool,
@@ -174,7 +177,7 @@ fn has_mark(bytes: &[u8]) -> bool {
     if bytes.len() < 3 {
         return false;
     }
-    (bytes[0] == b'T') & (bytes[1] == b'S') & (bytes[2] == b'M')
+    reader::is_marked(bytes)
 }
 
 // Writes the file of a problem's words over the bytes lent, or says why they are refused.
@@ -210,7 +213,7 @@ pub fn problem(i: usize, bytes: &mut [u8]) -> Taken
     if is_named_tsm(i) | has_mark(&bytes[..n]) {
         return got;
     }
-    let mut words = [0u32; 1024];
+    let mut words = [0u32; LIST_WORDS];
     let told = text_words(i, &bytes[..n], &mut words);
     if !told.is_good {
         return Taken {

@@ -14,7 +14,7 @@ enum Cell {
 fn is_sent(p: &[u32], w: &[u32], j: usize, r: usize, c: usize) -> bool
     requires { ⌜ Member (now p) j ⌝ }
 {
-    if w.len() <= 2 * j + 1 {
+    if !words::gives(w, j) {
         return false;
     }
     (words::column_of(w, j) == c) & (words::row_of(w, j) == r % words::repeat_of(p, j))
@@ -66,7 +66,7 @@ fn show_rows(p: &[u32], w: &[u32], from: usize, to: usize)
     while r < rows {
         paper::text(b"cycle ");
         paper::right_count(r, 3);
-        paper::right_hex(words::word(p, 3), 6);
+        paper::right_hex(words::ref_id_of(p), 6);
         show_cells(p, w, r, from, to);
         paper::end_line();
         r += 1;

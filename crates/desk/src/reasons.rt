@@ -1,4 +1,5 @@
 // A sentence for each refusal, in the words of the trade.
+use paper::line;
 use rules::Refusal;
 
 // A thing, its number and what is wrong with it.
@@ -11,12 +12,10 @@ fn fault_of(thing: &[u8], number: u32, wrong: &[u8]) {
 // What is wrong, and where.
 fn explain(reason: Refusal) {
     match reason {
-        Refusal::Length => paper::line(
-            b"the length does not fit the numbers of columns and messages",
-        ),
-        Refusal::Mark => paper::line(b"the file does not begin with the mark TSM"),
-        Refusal::Version => paper::line(b"the version of the file is not 1"),
-        Refusal::Header => paper::line(b"a number of the header is out of range"),
+        Refusal::Length => line(b"the length does not fit the numbers of columns and messages"),
+        Refusal::Mark => line(b"the file does not begin with the mark TSM"),
+        Refusal::Version => line(b"the version of the file is not 1"),
+        Refusal::Header => line(b"a number of the header is out of range"),
         Refusal::Column(c) => fault_of(
             b"column ",
             c,
@@ -29,9 +28,7 @@ fn explain(reason: Refusal) {
         ),
         Refusal::Timing(j) => fault_of(b"message ", j, b" has a wrong period, offset or deadline"),
         Refusal::Triggers(n) => fault_of(b"node ", n, b" needs more triggers than the limit"),
-        Refusal::ProposalLength => paper::line(
-            b"the proposal does not have two words for each message",
-        ),
+        Refusal::ProposalLength => line(b"the proposal does not have two words for each message"),
         Refusal::Range(j) => fault_of(
             b"message ",
             j,
@@ -40,12 +37,10 @@ fn explain(reason: Refusal) {
         Refusal::Width(j) => fault_of(b"message ", j, b" is longer than its window"),
         Refusal::Late(j) => fault_of(b"message ", j, b" is late for its deadline"),
         Refusal::Meeting(j) => fault_of(b"message ", j, b" meets an earlier message"),
-        Refusal::NoPlan => paper::line(b"no acceptable proposal exists"),
-        Refusal::TooMany => paper::line(b"the planner takes at most 16 messages"),
-        Refusal::Room => paper::line(b"the output is longer than its room"),
-        Refusal::EventWords => paper::line(
-            b"events have five words each, and there are at most 64",
-        ),
+        Refusal::NoPlan => line(b"no acceptable proposal exists"),
+        Refusal::TooMany => line(b"the planner takes at most 16 messages"),
+        Refusal::Room => line(b"the output is longer than its room"),
+        Refusal::EventWords => line(b"events have five words each, and there are at most 64"),
         Refusal::Event(j) => fault_of(
             b"event ",
             j,
@@ -57,7 +52,8 @@ fn explain(reason: Refusal) {
 // The line of a refusal: its number, its place and what is wrong.
 pub fn refuse(reason: Refusal) {
     paper::text(b"refused ");
-    paper::number(rules::number_of(reason));
+    let told = rules::paper_of(reason);
+    paper::number(told.number);
     paper::text(b", ");
     explain(reason);
 }

@@ -2,9 +2,13 @@
 use basics::wide;
 use losses::answer::BusTime;
 use rules::words;
+use triggers::ENTRY_WORDS;
+use triggers::KIND_WEIGHT;
+use triggers::NODES;
 ghost use Prim.Native.Nat.{_+_, _*_, _<_, _≤_};
 ghost use lib.ListN.{length};
-ghost use Rattle.rules.specs.Problem.{WellFormed};
+ghost use Rattle.rules.specs.Problem.{WellFormed, nodes};
+ghost use Rattle.triggers.specs.Lists.{entryWords};
 ghost use Rattle.rules.specs.Parts.{Member};
 
 // ---- the problem
@@ -24,9 +28,9 @@ pub fn header(p: &[u32])
     item(b"basic cycle length", words::cycle_of(p));
     item(b"reference window", words::ref_len_of(p));
     paper::left_text(b"reference identifier", 26);
-    paper::right_hex(words::word(p, 3), 6);
+    paper::right_hex(words::ref_id_of(p), 6);
     paper::end_line();
-    item(b"triggers a node, at most", words::word(p, 4));
+    item(b"triggers a node, at most", words::limit_of(p));
     item(b"windows", words::columns_of(p));
     item(b"messages", words::messages_of(p));
 }
@@ -34,7 +38,7 @@ pub fn header(p: &[u32])
 // The nodes of a receiver mask.
 fn receivers(mask: u32) {
     let mut n: u32 = 0;
-    while n < 16 {
+    while n < words::NODES {
         if basics::has_bit(mask, n) {
             paper::text(b" ");
             paper::number(n);
@@ -50,7 +54,7 @@ fn message(p: &[u32], j: usize)
     paper::right_count(j, 7);
     paper::right_hex(words::identifier_of(p, j), 5);
     paper::right_count(words::sender_of(p, j), 6);
-    paper::right_count(words::field_of(p, j, 2), 6);
+    paper::right_count(words::size_of(p, j), 6);
     paper::right_count(words::period_of(p, j), 9);
     paper::right_count(words::offset_of(p, j), 9);
     paper::right_count(words::deadline_of(p, j), 9);
@@ -90,20 +94,20 @@ fn lines(w: &[u32], size: usize)
 pub fn problem_words(p: &[u32])
     requires { ⌜ WellFormed (now p) ⌝ }
 {
-    let middle = 7 + 2 * words::columns_of(p);
+    let middle = words::column_at(words::columns_of(p));
     paper::line(b"# rows, cycle, reference window and identifier, triggers, columns, messages");
-    lines(&p[0..7], 7);
+    lines(&p[..words::HEADER_WORDS], words::HEADER_WORDS);
     paper::line(b"# columns: start, width");
-    lines(&p[7..middle], 2);
+    lines(&p[words::HEADER_WORDS..middle], words::COLUMN_WORDS);
     paper::line(b"# messages: identifier, sender, bytes, receivers, period, offset, deadline");
-    lines(&p[middle..], 7);
+    lines(&p[middle..], words::MESSAGE_WORDS);
 }
 
 // The column and the base row of one message, and its name as a comment.
 fn placement(p: &[u32], w: &[u32], j: usize)
     requires { ⌜ Member (now p) j ⌝ }
 {
-    if w.len() <= 2 * j + 1 {
+    if !words::gives(w, j) {
         return;
     }
     paper::count(words::column_of(w, j));
@@ -185,12 +189,12 @@ pub fn events(e: &[u32], times: &[u32]) {
 
 // One entry: its time mark, base row and repeat, what the node does then, and with which identifier.
 fn entry(e: &[u32])
-    requires { ⌜ 4 ≤ length (now e) ⌝ }
+    requires { ⌜ entryWords ≤ length (now e) ⌝ }
 {
     paper::right(e[1], 6);
     paper::right(e[2], 5);
     paper::right(e[3], 7);
-    let kind = e[0] / 65536;
+    let kind = e[0] / KIND_WEIGHT;
     if kind == 0 {
         paper::text(b"  reference ");
     } else if kind == 1 {
@@ -198,7 +202,7 @@ fn entry(e: &[u32])
     } else {
         paper::text(b"  receives  ");
     }
-    paper::hex(wide(e[0] % 65536));
+    paper::hex(wide(e[0] % KIND_WEIGHT));
     paper::end_line();
 }
 
@@ -207,7 +211,7 @@ fn list_end(lists: &[u32], at: usize, entries: u32) -> usize
     requires { ⌜ at ≤ length (now lists) ⌝ }
     ensures { λ r. ⌜ (at ≤ r) × (r ≤ length (now (lists .entry))) ⌝ }
 {
-    let size = 4 * wide(entries);
+    let size = ENTRY_WORDS * wide(entries);
     if lists.len() - at < size {
         return lists.len();
     }
@@ -216,10 +220,10 @@ fn list_end(lists: &[u32], at: usize, entries: u32) -> usize
 
 // Where the list of a node begins: behind the 16 counts and the lists before it.
 fn list_start(lists: &[u32], node: usize) -> usize
-    requires { ⌜ (16 ≤ length (now lists)) × (node < 16) ⌝ }
+    requires { ⌜ (nodes ≤ length (now lists)) × (node < nodes) ⌝ }
     ensures { λ r. ⌜ r ≤ length (now (lists .entry)) ⌝ }
 {
-    let mut at: usize = 16;
+    let mut at: usize = NODES;
     let mut n: usize = 0;
     while n < node {
         at = list_end(lists, at, lists[n]);
@@ -231,15 +235,16 @@ fn list_start(lists: &[u32], node: usize) -> usize
 // The entries of one list.
 fn entries(list: &[u32]) {
     let mut i: usize = 0;
-    while i < list.len() / 4 {
-        entry(&list[4 * i..4 * i + 4]);
+    while i < list.len() / ENTRY_WORDS {
+        let from = ENTRY_WORDS * i;
+        entry(&list[from..from + ENTRY_WORDS]);
         i += 1;
     }
 }
 
 // The list of one node.
 fn list(lists: &[u32], n: usize)
-    requires { ⌜ (16 ≤ length (now lists)) × (n < 16) ⌝ }
+    requires { ⌜ (nodes ≤ length (now lists)) × (n < nodes) ⌝ }
 {
     let count = lists[n];
     let from = list_start(lists, n);
@@ -253,9 +258,9 @@ fn list(lists: &[u32], n: usize)
 }
 
 // The lists of all nodes.
-fn all_lists(lists: &[u32; 2064]) {
+fn all_lists(lists: &[u32; triggers::MOST_WORDS]) {
     let mut n: usize = 0;
-    while n < 16 {
+    while n < NODES {
         list(lists, n);
         paper::end_line();
         n += 1;
@@ -263,8 +268,8 @@ fn all_lists(lists: &[u32; 2064]) {
 }
 
 // The list of one node, or of all if there is no such node.
-pub fn lists(lists: &[u32; 2064], node: usize) {
-    if node < 16 {
+pub fn lists(lists: &[u32; triggers::MOST_WORDS], node: usize) {
+    if node < NODES {
         list(lists, node);
     } else {
         all_lists(lists);

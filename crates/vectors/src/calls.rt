@@ -1,5 +1,5 @@
-// One call on one case: its answer as nine numbers, which are the number handed back, the place, the second place, the five
-// figures, and how much was written.
+// The calls that a record can have, each with its name, and one call on one case.
+use crate::record::WORD;
 use checker::answer::Checked;
 use losses::answer::BusTime;
 use losses::answer::Lost;
@@ -10,41 +10,96 @@ use rules::Refusal;
 use triggers::Listed;
 use writer::Written;
 
-// What the buffers hold before a call: 0xA5, as a byte and four times as a word.
-const BYTE_PATTERN: u8 = 165;
+// A call's number in a record. A further call takes the next number, its name in `name` and its line in `run`; `is_call` has the last.
+const READ: u8 = 1;
 
-pub const WORD_PATTERN: u32 = 2779096485;
+const WRITE: u8 = 2;
+
+const CHECK: u8 = 3;
+
+const LOSSES: u8 = 4;
+
+const LISTS: u8 = 5;
+
+const PLAN: u8 = 6;
+
+const RESPONSES: u8 = 7;
+
+// Each byte that is lent, before a call.
+pub const BYTE_PATTERN: u8 = 0xA5;
+
+// Each word that is lent, before a call.
+pub const WORD_PATTERN: u32 = 0xA5A5A5A5;
+
+// An answer as numbers: number, place, second place, five figures, and the lengths of the output and of the second output.
+pub const NUMBERS: usize = 10;
+
+// The figures among them.
+const FIGURES: usize = 5;
+
+// The words of an event, which has one response time.
+const EVENT_WORDS: usize = 5;
+
+// Whether a record's call is one of these.
+pub fn is_call(call: u8) -> bool {
+    (READ <= call) & (call <= RESPONSES)
+}
+
+// Whether a call takes words where the others take a file.
+pub fn takes_words(call: u8) -> bool {
+    (call == WRITE) | (call == RESPONSES)
+}
+
+// Whether a call writes bytes where the others write words.
+pub fn writes_bytes(call: u8) -> bool {
+    call == WRITE
+}
+
+// How many bytes or words so many bytes of output are.
+pub fn count(call: u8, bytes: usize) -> usize {
+    if writes_bytes(call) {
+        return bytes;
+    }
+    bytes / WORD
+}
 
 // What stands in the buffer where a call wrote nothing.
 pub fn pattern(call: u8) -> u32 {
-    if call == 2 {
-        return crate::record::wide(BYTE_PATTERN);
+    if writes_bytes(call) {
+        return basics::byte(BYTE_PATTERN);
     }
     WORD_PATTERN
 }
 
-// The answer of a call that is done and has no figures.
-fn done(written: usize) -> [u64; 9] {
-    [0, 0, 0, 0, 0, 0, 0, 0, written as u64]
-}
-
-// The answer of a call that refuses: all figures are 0.
-fn refused(q: Refusal) -> [u64; 9] {
+// An answer; none has a second place or a second output yet.
+fn numbers(number: u32, place: u32, figures: [u32; FIGURES], written: usize) -> [u64; NUMBERS] {
     [
-        rules::number_of(q) as u64,
-        rules::place_of(q) as u64,
+        basics::long(number),
+        basics::long(place),
         0,
-        0,
-        0,
-        0,
-        0,
-        0,
+        basics::long(figures[0]),
+        basics::long(figures[1]),
+        basics::long(figures[2]),
+        basics::long(figures[3]),
+        basics::long(figures[4]),
+        written as u64,
         0,
     ]
 }
 
+// The answer of a call that is done and has no figures.
+fn done(written: usize) -> [u64; NUMBERS] {
+    numbers(0, 0, [0; FIGURES], written)
+}
+
+// The answer of a call that refuses: all figures are 0.
+fn refused(q: Refusal) -> [u64; NUMBERS] {
+    let told = rules::paper_of(q);
+    numbers(told.number, told.place, [0; FIGURES], 0)
+}
+
 // Call 1: a file into words.
-fn read(file: &[u8], words: &mut [u32]) -> [u64; 9] {
+fn read(file: &[u8], words: &mut [u32]) -> [u64; NUMBERS] {
     let got = reader::read(file, words);
     match got {
         Read::Problem(n) => done(n),
@@ -53,7 +108,7 @@ fn read(file: &[u8], words: &mut [u32]) -> [u64; 9] {
 }
 
 // Call 2: words into a file. What is written goes into the output one byte to a word, and so does the pattern behind it.
-fn write_file(words: &[u32], file: &mut [u8], output: &mut [u32]) -> [u64; 9] {
+fn write(words: &[u32], file: &mut [u8], output: &mut [u32]) -> [u64; NUMBERS] {
     let got = writer::write(words, file);
     crate::record::spread(file, output);
     match got {
@@ -62,18 +117,8 @@ fn write_file(words: &[u32], file: &mut [u8], output: &mut [u32]) -> [u64; 9] {
     }
 }
 
-// No longer buffer is lent; there the answer would be one that no record can expect.
-fn write(words: &[u32], output: &mut [u32]) -> [u64; 9] {
-    let mut file = [BYTE_PATTERN; 16384];
-    let room = output.len();
-    if 16384 < room {
-        return [1000; 9];
-    }
-    write_file(words, &mut file[0..room], output)
-}
-
 // Call 3: a proposal checked.
-fn check(file: &[u8], proposal: &[u32]) -> [u64; 9] {
+fn check(file: &[u8], proposal: &[u32]) -> [u64; NUMBERS] {
     let got = checker::check(file, proposal);
     match got {
         Checked::Accepted => done(0),
@@ -82,22 +127,12 @@ fn check(file: &[u8], proposal: &[u32]) -> [u64; 9] {
 }
 
 // The answer of the losses.
-fn figures(t: BusTime) -> [u64; 9] {
-    [
-        0,
-        0,
-        0,
-        t.reference as u64,
-        t.used as u64,
-        t.in_window as u64,
-        t.empty as u64,
-        t.gaps as u64,
-        0,
-    ]
+fn figures(t: BusTime) -> [u64; NUMBERS] {
+    numbers(0, 0, [t.reference, t.used, t.in_window, t.empty, t.gaps], 0)
 }
 
 // Call 4: where the bus time goes.
-fn lose(file: &[u8], proposal: &[u32]) -> [u64; 9] {
+fn lose(file: &[u8], proposal: &[u32]) -> [u64; NUMBERS] {
     let got = losses::losses(file, proposal);
     match got {
         Lost::Figures(t) => figures(t),
@@ -106,7 +141,7 @@ fn lose(file: &[u8], proposal: &[u32]) -> [u64; 9] {
 }
 
 // Call 5: the trigger lists.
-fn list(file: &[u8], proposal: &[u32], words: &mut [u32]) -> [u64; 9] {
+fn list(file: &[u8], proposal: &[u32], words: &mut [u32]) -> [u64; NUMBERS] {
     let got = triggers::lists(file, proposal, words);
     match got {
         Listed::Lists(n) => done(n),
@@ -115,7 +150,7 @@ fn list(file: &[u8], proposal: &[u32], words: &mut [u32]) -> [u64; 9] {
 }
 
 // Call 6: the least acceptable proposal.
-fn plan(file: &[u8], proposal: &mut [u32]) -> [u64; 9] {
+fn plan(file: &[u8], proposal: &mut [u32]) -> [u64; NUMBERS] {
     let got = planner::plan(file, proposal);
     match got {
         Planned::Proposal(n) => done(n),
@@ -124,41 +159,52 @@ fn plan(file: &[u8], proposal: &mut [u32]) -> [u64; 9] {
 }
 
 // The answer of the response times.
-fn missed(misses: u32, written: usize) -> [u64; 9] {
-    [0, 0, 0, misses as u64, 0, 0, 0, 0, written as u64]
+fn missed(misses: u32, written: usize) -> [u64; NUMBERS] {
+    numbers(0, 0, [misses, 0, 0, 0, 0], written)
 }
 
-// Call 7: response times, one for each five words.
-fn respond(events: &[u32], times: &mut [u32]) -> [u64; 9] {
+// Call 7: response times, one for each event.
+fn respond(events: &[u32], times: &mut [u32]) -> [u64; NUMBERS] {
     let got = response::responses(events, times);
     match got {
-        Responded::Done(misses) => missed(misses, events.len() / 5),
+        Responded::Done(misses) => missed(misses, events.len() / EVENT_WORDS),
         Responded::Refused(q) => refused(q),
     }
 }
 
-// Runs a call by its number. Input A is there both as bytes and as words; each call takes the one it is made for.
-pub fn run(call: u8, file: &[u8], words: &[u32], proposal: &[u32], output: &mut [u32]) -> [u64; 9] {
+// Runs a call by its number. Input A is there both as bytes and as words, and so is the buffer that is lent; each call takes the ones it is made for.
+pub fn run(
+    call: u8,
+    file: &[u8],
+    words: &[u32],
+    proposal: &[u32],
+    lent: &mut [u8],
+    output: &mut [u32],
+) -> [u64; NUMBERS] {
     match call {
-        1 => read(file, output),
-        2 => write(words, output),
-        3 => check(file, proposal),
-        4 => lose(file, proposal),
-        5 => list(file, proposal, output),
-        6 => plan(file, output),
+        READ => read(file, output),
+        WRITE => write(words, lent, output),
+        CHECK => check(file, proposal),
+        LOSSES => lose(file, proposal),
+        LISTS => list(file, proposal, output),
+        PLAN => plan(file, output),
         _ => respond(words, output),
     }
 }
 
-// The name of a call, for people.
+// Writes the name of a call, for people.
 pub fn name(call: u8) {
     match call {
-        1 => paper::text(b"read"),
-        2 => paper::text(b"write"),
-        3 => paper::text(b"check"),
-        4 => paper::text(b"losses"),
-        5 => paper::text(b"lists"),
-        6 => paper::text(b"plan"),
-        _ => paper::text(b"responses"),
+        READ => paper::text(b"read"),
+        WRITE => paper::text(b"write"),
+        CHECK => paper::text(b"check"),
+        LOSSES => paper::text(b"losses"),
+        LISTS => paper::text(b"lists"),
+        PLAN => paper::text(b"plan"),
+        RESPONSES => paper::text(b"responses"),
+        _ => {
+            paper::text(b"call ");
+            paper::number(basics::byte(call));
+        }
     }
 }

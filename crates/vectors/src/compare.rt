@@ -1,39 +1,40 @@
 // A call's answer and output held to what is expected of them.
-use crate::record::joined;
-ghost use Prim.Native.Nat.{_≤_};
+use crate::calls::NUMBERS;
+use crate::record;
+use crate::record::BLOCK_BYTES;
+use crate::record::FIGURES;
+ghost use Prim.Native.Nat.{_+_, _≤_};
 ghost use lib.ListN.{length};
 
-// A word as one of the nine numbers.
-fn long(x: u32) -> u64 {
-    x as u64
+// The number of four bytes at a place of the block, as one of an answer's numbers.
+fn number_at(block: &[u8; BLOCK_BYTES], at: usize) -> u64
+    requires { ⌜ at + 4 ≤ 41 ⌝ }
+{
+    basics::long(record::number_at(block, at))
 }
 
-// A byte as one of the nine numbers.
-fn of_byte(x: u8) -> u64 {
-    x as u64
-}
-
-// The nine numbers that are expected, from the record's 23 bytes and the length of the output.
-pub fn expected(b: &[u8; 23], written: usize) -> [u64; 9] {
+// The answer that is expected, from the record's block and the lengths of the outputs.
+pub fn expected(block: &[u8; BLOCK_BYTES], written: usize, written_2: usize) -> [u64; NUMBERS] {
     [
-        of_byte(b[0]),
-        of_byte(b[1]),
-        of_byte(b[2]),
-        long(joined(b[3], b[4], b[5], b[6])),
-        long(joined(b[7], b[8], b[9], b[10])),
-        long(joined(b[11], b[12], b[13], b[14])),
-        long(joined(b[15], b[16], b[17], b[18])),
-        long(joined(b[19], b[20], b[21], b[22])),
+        basics::long(basics::byte(block[record::NUMBER])),
+        number_at(block, record::PLACE),
+        number_at(block, record::SECOND_PLACE),
+        number_at(block, FIGURES),
+        number_at(block, FIGURES + 4),
+        number_at(block, FIGURES + 8),
+        number_at(block, FIGURES + 12),
+        number_at(block, FIGURES + 16),
         written as u64,
+        written_2 as u64,
     ]
 }
 
-// The first of the nine at which two answers differ, or 9.
-fn first_unlike(a: &[u64; 9], b: &[u64; 9]) -> usize
-    ensures { λ r. ⌜ r ≤ 9 ⌝ }
+// The first of their numbers at which two answers differ, or NUMBERS.
+fn first_unlike(a: &[u64; NUMBERS], b: &[u64; NUMBERS]) -> usize
+    ensures { λ r. ⌜ r ≤ 10 ⌝ }
 {
     let mut k: usize = 0;
-    while k < 9 && a[k] == b[k] {
+    while k < NUMBERS && a[k] == b[k] {
         k += 1;
     }
     k
@@ -58,30 +59,32 @@ fn first_changed(buffer: &[u32], output: &[u32], pattern: u32) -> usize
     i
 }
 
-// What is there and what is expected, at one of the nine numbers or at a place of the buffer.
+// What is there and what is expected, at one of the numbers or at a place of the buffer.
 pub struct Unlike {
     pub at: usize,
     pub is: u64,
     pub expected: u64,
 }
 
-// The first difference of a case: in the answer, or in the buffer.
+// The first difference of a case: that there is no such call or no such input or output for it; in the answer, or in the buffer.
 pub enum Difference {
     None,
+    NoCall,
+    NoWords,
     Answer(Unlike),
     Buffer(Unlike),
 }
 
 // Holds the answer to what is expected, then the buffer: the output, and behind it the pattern.
 pub fn compare(
-    answer: [u64; 9],
-    expected: [u64; 9],
+    answer: [u64; NUMBERS],
+    expected: [u64; NUMBERS],
     buffer: &[u32],
     output: &[u32],
     pattern: u32,
 ) -> Difference {
     let k = first_unlike(&answer, &expected);
-    if k < 9 {
+    if k < NUMBERS {
         return Difference::Answer(Unlike {
             at: k,
             is: answer[k],
@@ -90,17 +93,17 @@ pub fn compare(
     }
     let i = first_changed(buffer, output, pattern);
     if i < buffer.len() {
-        let there = long(wanted(output, i, pattern));
+        let there = basics::long(wanted(output, i, pattern));
         return Difference::Buffer(Unlike {
             at: i,
-            is: long(buffer[i]),
+            is: basics::long(buffer[i]),
             expected: there,
         });
     }
     Difference::None
 }
 
-// The name of one of the nine numbers of an answer.
+// Writes the name of one of an answer's numbers.
 fn name(k: usize) {
     match k {
         0 => paper::text(b"number"),
@@ -111,7 +114,8 @@ fn name(k: usize) {
         5 => paper::text(b"figure 2"),
         6 => paper::text(b"figure 3"),
         7 => paper::text(b"figure 4"),
-        _ => paper::text(b"length of the output"),
+        8 => paper::text(b"length of the output"),
+        _ => paper::text(b"length of the second output"),
     }
 }
 
@@ -128,6 +132,8 @@ fn end_line(u: Unlike) {
 pub fn tell(d: Difference) {
     match d {
         Difference::None => paper::end_line(),
+        Difference::NoCall => paper::line(b"there is no such call"),
+        Difference::NoWords => paper::line(b"the bytes are no whole words"),
         Difference::Answer(u) => {
             name(u.at);
             end_line(u);

@@ -4,11 +4,24 @@ mod compare;
 mod record;
 
 use compare::Difference;
+use record::BLOCK_BYTES;
+use record::INPUT_BYTES;
+use record::INPUT_WORDS;
+use record::LIST_BYTES;
+use record::LIST_WORDS;
+use record::MOST_ROOM;
 use record::Number;
+use record::OUTPUT_BYTES;
 use record::Record;
 use record::Sizes;
 ghost use Prim.Native.Nat.{_≤_};
-ghost use lib.ListN.{length};
+ghost use Rattle.io.specs.Counts.{Counts};
+
+// "TSV2", with which a file of cases starts, read as a number.
+const MARK: u32 = 0x54535632;
+
+// How many disagreements of a file are shown.
+const SHOWN: u32 = 20;
 
 // Whether a case was run and what came of it; where it could not be run, that has been said.
 enum Ran {
@@ -42,20 +55,18 @@ fn stop_at(name: &[u8], at: u32, got: Record) -> Ran {
     }
 }
 
-// Whether a record can be a case: its call is one, and words are whole where it takes or writes words.
-fn is_case(call: u8, size: Sizes) -> bool {
-    let takes_words = (call == 2) | (call == 7);
-    let writes_words = call != 2;
-    let is_input = !takes_words | (size.input % 4 == 0);
-    let is_output = !writes_words | (size.output % 4 == 0);
-    (0 < call) & (call < 8) & is_input & is_output
+// Whether the words are whole that a call takes and writes.
+fn has_whole_words(call: u8, size: Sizes) -> bool {
+    let is_input = !calls::takes_words(call) | record::are_words(size.input);
+    let is_output = calls::writes_bytes(call) | record::are_words(size.output);
+    is_input & is_output
 }
 
 // The output that is expected: for a written file one byte to a word, else four.
 fn output_of(call: u8, output: &[u8], words: &mut [u32]) -> usize
-    ensures { λ r. ⌜ r ≤ length (now (words .exit)) ⌝ }
+    ensures { λ r. ⌜ Counts r (now (words .exit)) ⌝ }
 {
-    if call == 2 {
+    if calls::writes_bytes(call) {
         return record::spread(output, words);
     }
     record::gather(output, words)
@@ -67,42 +78,72 @@ fn judge(
     file: &[u8],
     words: &[u32],
     proposal: &[u32],
+    lent: &mut [u8],
     buffer: &mut [u32],
-    answer: &[u8; 23],
+    block: &[u8; BLOCK_BYTES],
     output: &[u8],
+    output_2: usize,
 ) -> Difference {
-    let mut wanted = [0u32; 16384];
+    let mut wanted = [0u32; MOST_ROOM];
     let n = output_of(call, output, &mut wanted);
-    let got = calls::run(call, file, words, proposal, buffer);
-    let expected = compare::expected(answer, n);
-    compare::compare(got, expected, buffer, &wanted[0..n], calls::pattern(call))
+    let expected = compare::expected(block, calls::count(call, output.len()), output_2);
+    let got = calls::run(call, file, words, proposal, lent, buffer);
+    compare::compare(got, expected, buffer, &wanted[..n], calls::pattern(call))
 }
 
-// Runs a case that has been read.
+// Runs a case in buffers of its own: input A also as words, and what is lent full of the pattern, as bytes and as words.
 fn run_case(
     call: u8,
     input: &[u8],
     proposal: &[u8],
     room: usize,
-    answer: &[u8; 23],
+    block: &[u8; BLOCK_BYTES],
     output: &[u8],
+    output_2: usize,
 ) -> Difference
-    requires { ⌜ room ≤ 16384 ⌝ }
+    requires { ⌜ room ≤ 8192 ⌝ }
 {
-    let mut a = [0u32; 8192];
+    let mut a = [0u32; INPUT_WORDS];
     let in_a = record::gather(input, &mut a);
-    let mut b = [0u32; 4096];
+    let mut b = [0u32; LIST_WORDS];
     let in_b = record::gather(proposal, &mut b);
-    let mut buffer = [calls::WORD_PATTERN; 16384];
+    let mut lent = [calls::BYTE_PATTERN; MOST_ROOM];
+    let mut buffer = [calls::WORD_PATTERN; MOST_ROOM];
     judge(
         call,
         input,
-        &a[0..in_a],
-        &b[0..in_b],
-        &mut buffer[0..room],
-        answer,
+        &a[..in_a],
+        &b[..in_b],
+        &mut lent[..room],
+        &mut buffer[..room],
+        block,
         output,
+        output_2,
     )
+}
+
+// Runs a case that has been read, unless there is no such call or its lengths cannot be.
+fn try_case(
+    call: u8,
+    size: Sizes,
+    room: usize,
+    input: &[u8],
+    proposal: &[u8],
+    block: &[u8; BLOCK_BYTES],
+    output: &[u8],
+) -> Difference
+    requires { ⌜ room ≤ 8192 ⌝ }
+{
+    if !calls::is_call(call) {
+        return Difference::NoCall;
+    }
+    if !has_whole_words(call, size) {
+        return Difference::NoWords;
+    }
+    let a = record::front(input, size.input);
+    let b = record::front(proposal, size.proposal);
+    let o = record::front(output, size.output);
+    run_case(call, a, b, room, block, o, size.output_2)
 }
 
 // Shows the first difference of a case, and answers whether there is none.
@@ -123,42 +164,33 @@ fn show(name: &[u8], at: u32, is_shown: bool, call: u8, d: Difference) -> bool {
 // Reads the next case and runs it.
 fn next_case(fd: i32, name: &[u8], at: u32, is_shown: bool) -> Ran {
     let mut head = [0u8; 1];
-    let mut input = [0u8; 32768];
-    let mut proposal = [0u8; 16384];
-    let mut answer = [0u8; 23];
-    let mut output = [0u8; 65536];
+    let mut input = [0u8; INPUT_BYTES];
+    let mut proposal = [0u8; LIST_BYTES];
+    let mut block = [0u8; BLOCK_BYTES];
+    let mut output = [0u8; OUTPUT_BYTES];
     if io::read_full(fd, &mut head) != 1 {
         return stop(name, at, b" is missing\n");
     }
     let call = head[0];
-    let got = record::read_record(fd, &mut input, &mut proposal, &mut answer, &mut output);
+    let got = record::read_record(fd, &mut input, &mut proposal, &mut block, &mut output);
     let Record::Whole(size) = got else {
         return stop_at(name, at, got);
     };
-    let room = size.room;
-    if 16384 < room {
+    let room = record::room(&block);
+    if MOST_ROOM < room {
         return stop_at(name, at, Record::TooLong);
     }
-    if !is_case(call, size) {
-        return stop(
-            name,
-            at,
-            b" is none of the calls 1 to 7, or its lengths cannot be\n",
-        );
-    }
-    let a = record::front(&input, size.input);
-    let b = record::front(&proposal, size.proposal);
-    let o = record::front(&output, size.output);
-    let d = run_case(call, a, b, room, &answer, o);
+    let d = try_case(call, size, room, &input, &proposal, &block, &output);
     Ran::Agrees(show(name, at, is_shown, call, d))
 }
 
 // The number of cases of a file that starts as one.
 fn start_file(fd: i32) -> Number {
-    let mut mark = [0u8; 4];
-    let came = io::read_full(fd, &mut mark);
-    let is_marked = (mark[0] == b'T') & (mark[1] == b'S') & (mark[2] == b'V') & (mark[3] == b'1');
-    if (came != 4) | !is_marked {
+    let start = record::read_number(fd);
+    let Number::Is(mark) = start else {
+        return Number::Missing;
+    };
+    if mark != MARK {
         return Number::Missing;
     }
     record::read_number(fd)
@@ -179,7 +211,7 @@ fn end_file(fd: i32, name: &[u8], cases: u32, agree: u32) {
     paper::text(b" agree\n");
 }
 
-// Runs the cases of a file, up to the last or to one that cannot be read. The first 20 that differ are shown.
+// Runs the cases of a file, up to the last or to one that cannot be read. The first SHOWN that differ are shown.
 fn run_file(fd: i32, name: &[u8]) {
     let start = start_file(fd);
     let Number::Is(count) = start else {
@@ -190,7 +222,7 @@ fn run_file(fd: i32, name: &[u8]) {
     let mut at: u32 = 0;
     let mut agree: u32 = 0;
     while at < count {
-        let ran = next_case(fd, name, at, at - agree < 20);
+        let ran = next_case(fd, name, at, at - agree < SHOWN);
         let Ran::Agrees(is_same) = ran else {
             return;
         };
@@ -210,12 +242,12 @@ fn run_argument(i: usize) {
         os::fail(b"a file's name");
         return;
     }
-    let fd = os::open_read(&path[0..length]);
+    let fd = os::open_read(&path[..length]);
     if fd < 0 {
-        os::fail(&path[0..length]);
+        os::fail(&path[..length]);
         return;
     }
-    run_file(fd, &path[0..length]);
+    run_file(fd, &path[..length]);
     libc::close(fd);
 }
 

@@ -1,7 +1,41 @@
 // The record of a case, read part by part. All numbers are big-endian.
-ghost use mathlib.Core.Path.{_≡_};
-ghost use Prim.Native.Nat.{_<_, _≤_};
-ghost use lib.ListN.{length};
+ghost use Prim.Native.Nat.{_+_, _≤_};
+ghost use Rattle.io.specs.Counts.{Counts};
+
+// The bytes of a word.
+pub const WORD: usize = 4;
+
+// The most bytes of input A.
+pub const INPUT_BYTES: usize = 4096;
+
+// The most words of input A.
+pub const INPUT_WORDS: usize = INPUT_BYTES / WORD;
+
+// The most words of a list beside it.
+pub const LIST_WORDS: usize = 2048;
+
+// The most bytes of such a list.
+pub const LIST_BYTES: usize = WORD * LIST_WORDS;
+
+// The most words or bytes that are lent for the output.
+pub const MOST_ROOM: usize = 8192;
+
+// The most bytes of the output.
+pub const OUTPUT_BYTES: usize = WORD * MOST_ROOM;
+
+// The bytes of the block of numbers between the inputs and the outputs: span, room and room 2; then what is expected, that is number,
+// place, second place and five figures. Behind it are the places in the block of those that are read here.
+pub const BLOCK_BYTES: usize = 41;
+
+const ROOM: usize = 4;
+
+pub const NUMBER: usize = 12;
+
+pub const PLACE: usize = 13;
+
+pub const SECOND_PLACE: usize = 17;
+
+pub const FIGURES: usize = 21;
 
 // How many bytes of a part came, or why it could not be had.
 pub enum Part {
@@ -16,63 +50,85 @@ pub enum Number {
     Missing,
 }
 
-// A byte as a word.
-pub fn wide(x: u8) -> u32
-    ensures { λ r. ⌜ (r ≡ x) × (r < 256) ⌝ }
-{
-    x as u32
+// The number that four bytes are.
+fn joined(a: u8, b: u8, c: u8, d: u8) -> u32 {
+    ((basics::byte(a) * 256 + basics::byte(b)) * 256 + basics::byte(c)) * 256 + basics::byte(d)
 }
 
-// The number that four bytes are.
-pub fn joined(a: u8, b: u8, c: u8, d: u8) -> u32 {
-    ((wide(a) * 256 + wide(b)) * 256 + wide(c)) * 256 + wide(d)
+// The number of four bytes at a place of the block.
+pub fn number_at(block: &[u8; BLOCK_BYTES], at: usize) -> u32
+    requires { ⌜ at + 4 ≤ 41 ⌝ }
+{
+    joined(block[at], block[at + 1], block[at + 2], block[at + 3])
+}
+
+// How many words or bytes are lent for the output.
+pub fn room(block: &[u8; BLOCK_BYTES]) -> usize {
+    basics::wide(number_at(block, ROOM))
 }
 
 // Reads a number of four bytes.
 pub fn read_number(fd: i32) -> Number {
-    let mut b = [0u8; 4];
+    let mut b = [0u8; WORD];
     let came = io::read_full(fd, &mut b);
-    if came != 4 {
+    if came != WORD {
         return Number::Missing;
     }
     Number::Is(joined(b[0], b[1], b[2], b[3]))
 }
 
 // Reads a part of a known length into the front of a buffer.
-pub fn read_bytes(fd: i32, length: usize, buffer: &mut [u8]) -> Part {
+fn read_bytes(fd: i32, length: usize, buffer: &mut [u8]) -> Part {
     if buffer.len() < length {
         return Part::TooLong;
     }
-    let came = io::read_full(fd, &mut buffer[0..length]);
+    let came = io::read_full(fd, &mut buffer[..length]);
     if came != length {
         return Part::CutShort;
     }
     Part::Bytes(length)
 }
 
-// How many bytes so many bytes or words are.
-fn in_bytes(count: u32, are_words: bool) -> usize {
-    if are_words {
-        return 4 * basics::wide(count);
-    }
-    basics::wide(count)
-}
-
-// Reads a part's length, in bytes or in words, and then the part.
-pub fn read_part(fd: i32, are_words: bool, buffer: &mut [u8]) -> Part {
+// Reads a part of bytes: its length, then the bytes.
+fn read_text(fd: i32, buffer: &mut [u8]) -> Part {
     let length = read_number(fd);
     let Number::Is(count) = length else {
         return Part::CutShort;
     };
-    read_bytes(fd, in_bytes(count, are_words), buffer)
+    read_bytes(fd, basics::wide(count), buffer)
 }
 
-// How long the parts of a record are, the room in words or bytes, the others in bytes.
+// Reads a part of words: how many, then four bytes each.
+fn read_list(fd: i32, buffer: &mut [u8]) -> Part {
+    let length = read_number(fd);
+    let Number::Is(count) = length else {
+        return Part::CutShort;
+    };
+    read_bytes(fd, WORD * basics::wide(count), buffer)
+}
+
+// Reads past the lists C and D, which no call takes yet.
+fn pass_lists(fd: i32) -> Part {
+    let mut list = [0u8; LIST_BYTES];
+    let third = read_list(fd, &mut list);
+    let Part::Bytes(_) = third else {
+        return third;
+    };
+    read_list(fd, &mut list)
+}
+
+// Reads past the second output, which no call has yet; its length is compared.
+fn pass_output(fd: i32) -> Part {
+    let mut output = [0u8; LIST_BYTES];
+    read_text(fd, &mut output)
+}
+
+// How many bytes the parts of a record have.
 pub struct Sizes {
     pub input: usize,
     pub proposal: usize,
-    pub room: usize,
     pub output: usize,
+    pub output_2: usize,
 }
 
 // A record, or why it could not be had.
@@ -95,35 +151,43 @@ pub fn read_record(
     fd: i32,
     input: &mut [u8],
     proposal: &mut [u8],
-    answer: &mut [u8],
+    block: &mut [u8; BLOCK_BYTES],
     output: &mut [u8],
 ) -> Record {
-    let of_input = read_part(fd, false, input);
+    let of_input = read_text(fd, input);
     let Part::Bytes(a) = of_input else {
         return broken(of_input);
     };
-    let of_proposal = read_part(fd, true, proposal);
+    let of_proposal = read_list(fd, proposal);
     let Part::Bytes(b) = of_proposal else {
         return broken(of_proposal);
     };
-    let lent = read_number(fd);
-    let Number::Is(room) = lent else {
+    let of_lists = pass_lists(fd);
+    let Part::Bytes(_) = of_lists else {
+        return broken(of_lists);
+    };
+    if io::read_full(fd, block) != BLOCK_BYTES {
         return Record::CutShort;
-    };
-    let of_answer = read_bytes(fd, 23, answer);
-    let Part::Bytes(_) = of_answer else {
-        return broken(of_answer);
-    };
-    let of_output = read_part(fd, false, output);
+    }
+    let of_output = read_text(fd, output);
     let Part::Bytes(o) = of_output else {
         return broken(of_output);
+    };
+    let of_output_2 = pass_output(fd);
+    let Part::Bytes(o2) = of_output_2 else {
+        return broken(of_output_2);
     };
     Record::Whole(Sizes {
         input: a,
         proposal: b,
-        room: basics::wide(room),
         output: o,
+        output_2: o2,
     })
+}
+
+// Whether so many bytes are whole words.
+pub fn are_words(bytes: usize) -> bool {
+    bytes % WORD == 0
 }
 
 // The first bytes of a buffer, or all where there are fewer.
@@ -131,16 +195,16 @@ pub fn front(buffer: &[u8], n: usize) -> &[u8] {
     if buffer.len() < n {
         return buffer;
     }
-    &buffer[0..n]
+    &buffer[..n]
 }
 
 // The words that bytes are, four bytes to a word, in the front of a buffer; answers how many.
 pub fn gather(from: &[u8], words: &mut [u32]) -> usize
-    ensures { λ r. ⌜ r ≤ length (now (words .exit)) ⌝ }
+    ensures { λ r. ⌜ Counts r (now (words .exit)) ⌝ }
 {
     let mut i: usize = 0;
-    while i < from.len() / 4 && i < words.len() {
-        let at = 4 * i;
+    while i < from.len() / WORD && i < words.len() {
+        let at = WORD * i;
         words[i] = joined(from[at], from[at + 1], from[at + 2], from[at + 3]);
         i += 1;
     }
@@ -149,11 +213,11 @@ pub fn gather(from: &[u8], words: &mut [u32]) -> usize
 
 // Bytes as words, one byte to a word, in the front of a buffer; answers how many.
 pub fn spread(from: &[u8], words: &mut [u32]) -> usize
-    ensures { λ r. ⌜ r ≤ length (now (words .exit)) ⌝ }
+    ensures { λ r. ⌜ Counts r (now (words .exit)) ⌝ }
 {
     let mut i: usize = 0;
     while i < from.len() && i < words.len() {
-        words[i] = wide(from[i]);
+        words[i] = basics::byte(from[i]);
         i += 1;
     }
     i

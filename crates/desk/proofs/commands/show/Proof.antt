@@ -18,8 +18,7 @@ slice-aggregate-present c =
 present-requires : tie.Need-present-requires
 present-requires c κs =
     let decoded = c .before .before .before .before .before in
-    let opened = decoded .decode .ensures .opens _ (c .before .before .got .given .1) in
-    rw (opened .front) (opened .formed)
+    decoded .decode .ensures .opens _ (c .before .before .got .given .1) .formed
 
 pub show-spec : {M : Type 1} → statement M
 show-spec =

@@ -1,15 +1,16 @@
--- A turn an entry of four words.
+-- Invariant: as many whole entries are behind as turns; a turn is an entry of four words.
 use Prim.Native.Nat.{_≤_, _-_, _/_}
 use lib.ListN.{length}
+use Rattle.triggers.specs.Lists.{entryWords}
 use borrow.Author.Needs.{needs}
 use Rattle.desk.proofs.tables.entries.Statement.{statement}
 use Rattle.desk.proofs.tables.entries.Tie as tie
 
 abbrev Inv-loop : tie.InvT-loop
-Inv-loop list i₀ i = i ≤ length list / 4
+Inv-loop list i₀ i = i ≤ length list / entryWords
 
 abbrev μ-loop : tie.MeasureT-loop
-μ-loop list i₀ i = length list / 4 - i
+μ-loop list i₀ i = length list / entryWords - i
 
 pub entries-spec : {M : Type 1} → statement M
 entries-spec =
@@ -17,7 +18,6 @@ entries-spec =
     (tie.spec
     Inv-loop
     μ-loop
-    (λ c. search needs)
     (λ c. search needs)
     (λ c. search needs)
     (λ c. search needs)

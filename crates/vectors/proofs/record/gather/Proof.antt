@@ -3,6 +3,7 @@ use Prim.Native.Nat.{_≤_, _-_}
 use mathlib.Core.Path.{_≡_}
 use native.Mathlib.Omega.{arith}
 use lib.ListN.{length, length-set}
+use Rattle.io.proofs.Counting.{counts}
 use borrow.Author.Tests.{ltb-true}
 use borrow.Author.Needs.{needs}
 use Rattle.vectors.proofs.record.gather.Statement.{statement}
@@ -39,6 +40,6 @@ gather-spec =
     (λ c. search needs)
     loop-again
     (λ c. search needs)
+    (λ c. counts _ _ (omega arith))
     (λ c. search needs)
-    (λ c. search needs)
-    (λ c. search needs))
+    (λ c. counts _ _ (omega arith)))
