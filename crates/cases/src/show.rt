@@ -4,18 +4,14 @@ use checker::Checked;
 use losses::BusTime;
 use losses::Lost;
 use planner::Planned;
+use response::EVENT_WORDS;
+use response::MOST_EVENTS;
 use response::Responded;
 use rules::Refusal;
 use rules::words::MOST_WORDS;
 use triggers::Listed;
 use writer::Written;
 ghost use Rattle.io.specs.Counts.{Counts};
-
-// The most events.
-const EVENTS: usize = 64;
-
-// The words of an event.
-const EVENT_WORDS: usize = 5;
 
 // The most words that a case here wants.
 const WANTED_WORDS: usize = 256;
@@ -179,9 +175,9 @@ pub fn lists(title: &[u8], problem: &[u32], proposal: &[u8], count: usize, wante
 
 // Response times: the times that the document wants, and how many are missed.
 pub fn responses(title: &[u8], events: &[u8], wanted: &[u8], misses: u32) {
-    let mut e = [0u32; EVENTS * EVENT_WORDS];
+    let mut e = [0u32; MOST_EVENTS * EVENT_WORDS];
     let n = build::words(events, &mut e);
-    let mut times = [0u32; EVENTS];
+    let mut times = [0u32; MOST_EVENTS];
     start(title, b", response times: ");
     let got = response::responses(&e[..n], &mut times);
     match got {

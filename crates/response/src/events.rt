@@ -7,11 +7,12 @@ ghost use Prim.Native.Nat.{_<_};
 ghost use Rattle.rules.specs.Refusal.{firstFault};
 ghost use Rattle.response.specs.Events.{eventWords, count, field, Gives, Whole, fieldsWrong, repeated, eventWrong, wordsWrong, eventFault, eventsFault, callFault};
 
-// So many words are an event.
-const EVENT_WORDS: usize = 5;
+// So many words are an event, and a call takes at most so many events.
+pub const EVENT_WORDS: usize = 5;
 
-// A call takes at most 64 events.
-const MOST_WORDS: usize = EVENT_WORDS * 64;
+pub const MOST_EVENTS: usize = 64;
+
+const MOST_WORDS: usize = EVENT_WORDS * MOST_EVENTS;
 
 // No period is longer.
 const LONGEST_PERIOD: u32 = 4194304;

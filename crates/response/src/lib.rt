@@ -2,6 +2,8 @@
 mod events;
 mod times;
 
+pub use events::EVENT_WORDS;
+pub use events::MOST_EVENTS;
 use events::call_fault;
 use rules::Fault;
 use rules::Refusal;

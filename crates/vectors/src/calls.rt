@@ -5,6 +5,7 @@ use losses::answer::BusTime;
 use losses::answer::Lost;
 use planner::answer::Planned;
 use reader::Read;
+use response::EVENT_WORDS;
 use response::Responded;
 use rules::Refusal;
 use triggers::Listed;
@@ -36,9 +37,6 @@ pub const NUMBERS: usize = 10;
 
 // The figures among them.
 const FIGURES: usize = 5;
-
-// The words of an event, which has one response time.
-const EVENT_WORDS: usize = 5;
 
 // Whether a record's call is one of these.
 pub fn is_call(call: u8) -> bool {
