@@ -1,5 +1,4 @@
-pub mod Meets
-pub mod Covering
-pub mod Tables
-pub mod Passed
-pub mod Counting
+pub mod Owing
+pub mod Narrowing
+pub mod Tightening
+pub mod Trying

@@ -1,47 +1,46 @@
 // The planner's look-ahead: whether the messages still unplaced may all find room.
 use rules::words;
 
-pub mod cells;
-pub mod crowd;
+mod seek;
 
+ghost use mathlib.Core.Path.{_≡_};
 ghost use Prim.Native.Nat.{_<_};
+ghost use lib.ListN.{length};
 ghost use Rattle.rules.specs.Problem.{messages};
-ghost use Rattle.rules.specs.Parts.{Member};
-ghost use Rattle.lookahead.specs.Cells.{mostPlanned, Few, Allows, Picked, Cautious};
-ghost use Rattle.lookahead.specs.Crowd.{Needs, Crowded};
+ghost use Rattle.basics.specs.Bits.{Has};
+ghost use Rattle.places.specs.Places.{tableWords, Few, Steps, Narrowed};
+ghost use Rattle.lookahead.specs.Probe.{Picked, Cautious};
 
-// How many places message j has.
-fn places(p: &[u32], a: &[u32; cells::TABLE_WORDS], j: usize) -> u32
-    requires { ⌜ Member (now p) j × (j < mostPlanned) ⌝ }
-{
-    let repeat = words::repeat_of(p, j);
-    let mut n: u32 = 0;
-    let mut r = 0;
-    while r < repeat {
-        n += basics::ones_of(a[cells::table_at(j, r)]);
-        r += 1;
-    }
-    n
-}
+// No node tries more: one place of the message that is picked first, and each place of the one that is picked behind the look for prices.
+const MOST_TRIES: usize = 1 + words::MOST_ROWS * words::MOST_COLUMNS;
 
-// More than the places of any message.
-const MANY: u32 = 4096;
+// More than the rows of any message, so that fewer places count before fewer rows; and more than what any message has of both.
+const PLACE: usize = 128;
 
-// A message of `left` with the fewest places, or a number that is none of a message.
-fn pick(p: &[u32], a: &[u32; cells::TABLE_WORDS], left: u32) -> usize
+const NO_RANK: usize = 1048576;
+
+// A message of `left` with the fewest places, of these one that is sent most often, or a number that is none of a message.
+fn pick(
+    p: &[u32],
+    steps: &[usize; places::MOST_PLANNED],
+    table: &[u32; places::TABLE_WORDS],
+    left: u32,
+) -> usize
     requires { ⌜ Few (now p) ⌝ }
+    requires { ⌜ Steps (now p) (now steps) ⌝ }
     ensures { λ j. ⌜ Picked (now (p .entry)) left j ⌝ }
 {
     let count = words::messages_of(p);
     let mut best = count;
-    let mut fewest = MANY;
+    let mut least = NO_RANK;
     let mut j = 0;
     while j < count {
         if basics::has_bit(left, j as u32) {
-            let n = places(p, a, j);
-            if n < fewest {
+            let step = steps[j];
+            let rank = PLACE * places::count_of(table, j, step) + step;
+            if rank < least {
                 best = j;
-                fewest = n;
+                least = rank;
             }
         }
         j += 1;
@@ -49,69 +48,101 @@ fn pick(p: &[u32], a: &[u32; cells::TABLE_WORDS], left: u32) -> usize
     best
 }
 
-// Whether the messages of `left` are too many for their cells. Where message j has no place at all, that shows by itself.
-fn overfull(
+// What to go on with once a place of message m has failed: m if that was its last, else, behind a look for prices, the message that then has the fewest places, or a
+// number that is none of a message if the cheapest places of all meet nowhere.
+fn turn(
     p: &[u32],
-    needs: &[u32; cells::MOST_PLANNED],
-    a: &[u32; cells::TABLE_WORDS],
+    steps: &[usize; places::MOST_PLANNED],
+    table: &mut [u32; places::TABLE_WORDS],
     left: u32,
-    j: usize,
-) -> bool
+    m: usize,
+    prices: &mut [u16; prices::CELLS],
+    seen: &mut [u32; places::PLAN_WORDS],
+) -> usize
     requires { ⌜ Few (now p) ⌝ }
-    requires { ⌜ Needs (now p) (messages (now p)) (now needs) ⌝ }
-    requires { ⌜ Member (now p) j ⌝ }
-    ensures { λ b. ⌜ Crowded (now (p .entry)) (now (a .entry)) left b ⌝ }
+    requires { ⌜ Steps (now p) (now steps) ⌝ }
+    requires { ⌜ (m < messages (now p)) × Has left m ⌝ }
+    requires { ⌜ length (now table) ≡ tableWords ⌝ }
+    ensures { λ j. ⌜ Picked (now (p .entry)) left j × Narrowed (now (p .entry)) left (now (table .entry)) (now (table .exit)) ⌝ }
+    ensures { λ _. ⌜ length (now (table .exit)) ≡ tableWords ⌝ }
 {
-    if places(p, a, j) == 0 {
-        return false;
+    let step = steps[m];
+    if step <= places::first_row(table, m, step) {
+        return m;
     }
-    crowd::crowded(p, needs, a, left)
+    if seek::tighten(p, steps, table, left, prices, seen) {
+        return words::messages_of(p);
+    }
+    pick(p, steps, table, left)
 }
 
-// Whether the messages of `left` may all find room beside the occupied cells: false only where they cannot. The message with
-// the fewest places is tried first, and at most `deep` messages one after the other.
-pub fn possible(
+// Whether the messages of `left` may all find room within the table, which it uses up: false only where they cannot. The message with the fewest places is tried first. On
+// the way down no prices are asked for: a node looks for them once, when its first place has failed.
+fn possible(
     p: &[u32],
-    table: &[u32; cells::TABLE_WORDS],
-    needs: &[u32; cells::MOST_PLANNED],
-    occupied: [u32; words::MOST_ROWS],
+    steps: &[usize; places::MOST_PLANNED],
+    table: &mut [u32; places::TABLE_WORDS],
     left: u32,
+    prices: &mut [u16; prices::CELLS],
+    seen: &mut [u32; places::PLAN_WORDS],
     deep: usize,
 ) -> bool
     requires { ⌜ Few (now p) ⌝ }
-    requires { ⌜ Allows (now p) (now table) ⌝ }
-    requires { ⌜ Needs (now p) (messages (now p)) (now needs) ⌝ }
-    ensures { λ b. ⌜ Cautious (now (p .entry)) occupied left b ⌝ }
+    requires { ⌜ Steps (now p) (now steps) ⌝ }
+    requires { ⌜ length (now table) ≡ tableWords ⌝ }
+    ensures { λ b. ⌜ Cautious (now (p .entry)) (now (table .entry)) left b ⌝ }
+    ensures { λ _. ⌜ length (now (table .exit)) ≡ tableWords ⌝ }
 {
     if deep == 0 {
         return true;
     }
-    let a = cells::available(p, table, &occupied, left);
-    let j = pick(p, &a, left);
-    if words::messages_of(p) <= j {
-        return true;
-    }
-    if overfull(p, needs, &a, left, j) {
-        return false;
-    }
-    let rest = basics::clear_bit(left, j as u32);
-    let rows = words::rows_of(p);
-    let columns = words::columns_of(p);
-    let repeat = words::repeat_of(p, j);
-    let mut r = 0;
-    while r < repeat {
-        let x = a[cells::table_at(j, r)];
-        let mut c = 0;
-        while c < columns {
-            if basics::has_bit(x, c as u32) {
-                let next = cells::occupy(occupied, rows, repeat, c, r);
-                if possible(p, table, needs, next, rest, deep - 1) {
-                    return true;
-                }
-            }
-            c += 1;
+    let count = words::messages_of(p);
+    let mut next = [basics::FILL; places::TABLE_WORDS];
+    let mut asked = false;
+    let mut m = pick(p, steps, table, left);
+    let mut tries = MOST_TRIES;
+    while 0 < tries {
+        if count <= m {
+            return true;
         }
-        r += 1;
+        let step = steps[m];
+        let r = places::first_row(table, m, step);
+        if step <= r {
+            return false;
+        }
+        let k = places::table_at(m, r);
+        let c = basics::lowest(table[k]);
+        let rest = basics::clear_bit(left, m as u32);
+        places::beside(p, steps, table, rest, m, basics::wide(c), r, &mut next);
+        if possible(p, steps, &mut next, rest, prices, seen, deep - 1) {
+            places::note(seen, m, c, r);
+            return true;
+        }
+        table[k] = basics::clear_bit(table[k], c);
+        if !asked {
+            asked = true;
+            m = turn(p, steps, table, left, m, prices, seen);
+        }
+        tries -= 1;
     }
-    false
+    true
+}
+
+// Whether the messages of `left`, at most `deep`, may all find room within the table: false only where they cannot. If they do, `seen` has where.
+pub fn has_room(
+    p: &[u32],
+    steps: &[usize; places::MOST_PLANNED],
+    table: &[u32; places::TABLE_WORDS],
+    left: u32,
+    prices: &mut [u16; prices::CELLS],
+    seen: &mut [u32; places::PLAN_WORDS],
+    deep: usize,
+) -> bool
+    requires { ⌜ Few (now p) ⌝ }
+    requires { ⌜ Steps (now p) (now steps) ⌝ }
+    ensures { λ b. ⌜ Cautious (now (p .entry)) (now (table .entry)) left b ⌝ }
+{
+    let mut own = [basics::FILL; places::TABLE_WORDS];
+    places::copy(p, steps, table, left, &mut own);
+    possible(p, steps, &mut own, left, prices, seen, deep)
 }

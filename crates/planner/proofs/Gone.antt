@@ -1,44 +1,29 @@
 -- What the search knows at each place that it comes to, and that what it finds is the least.
 use Prim.Native.Nat.{ℕ, _+_, _<_, _≤_}
-use mathlib.Core.Path.{_≡_, refl, sym, ap, _∙_}
-use mathlib.Core.Bool.{Bool, true, false}
+use mathlib.Core.Path.{_≡_, refl, sym, _∙_}
 use mathlib.Core.List.{List}
-use mathlib.Core.Logic.{_⊎_, inl, inr, ⊎-elim}
+use mathlib.Core.Logic.{inl, inr, ⊎-elim}
 use native.Mathlib.Nat.{eq-or-lt-of-le}
 use native.Mathlib.Omega.{arith}
 use borrow.Author.Count.{below-more}
 use lib.ListN.{length-set}
 use Rattle.basics.specs.Bits.{Has}
-use Rattle.basics.proofs.Tests.{not-both}
-use Rattle.rules.specs.Refusal.{isClear}
+use Rattle.basics.proofs.Tests.{not-both, never, true-T, T-true}
 use Rattle.rules.specs.declared.Fault.{Fault}
-use Rattle.rules.specs.declared.Fault.the-variants.{Clear, Bad}
+use Rattle.rules.specs.declared.Fault.the-variants.{Clear}
 use Rattle.rules.specs.Problem.{columns, messages, repeat, Gives, column, row}
-use Rattle.rules.specs.Tests.{ownFault, meets, meetingFault, fault, Stand}
+use Rattle.rules.specs.Tests.{ownFault, meetingFault, fault, Stand}
 use Rattle.rules.proofs.Faults.{clear-both}
-use Rattle.rules.proofs.Meaning.{clear-unmet, unmet-clear}
+use Rattle.rules.proofs.Meaning.{meets-is, is-meets, clear-unmet, unmet-clear}
 use Rattle.rules.proofs.Prefix.{same-fault}
-use Rattle.lookahead.specs.Cells.{Allowed}
-use Rattle.lookahead.proofs.Meets.{own-placed, fault-own}
-use Rattle.lookahead.proofs.Covering.{clear-yes, clear-no}
+use Rattle.places.proofs.Meets.{own-placed, fault-own, clash-meets, meets-clash}
 use Rattle.planner.specs.Order.{Agree, Before}
-use Rattle.planner.specs.Search.{put, Best, Nowhere}
+use Rattle.planner.specs.Search.{put, LeftIn, Best, Nowhere}
 use Rattle.planner.proofs.Order.{places, agree-refl, agree-sym, agree-trans, agree-less, put-keeps, put-column, put-row, put-agree}
 
 -- a message's fault goes by the placements up to it
 pub fault-agree : (p : List ℕ) {v w : List ℕ} (j : ℕ) → Agree v w (j + 1) → fault p v j ≡ fault p w j
 fault-agree p {v} {w} j g = same-fault p v w j λ i l. record { column-is = g .columns-same i (omega arith); row-is = g .rows-same i (omega arith) }
-
--- ---- whether message j meets an earlier one
-pub met-shut : (p w : List ℕ) (i j : ℕ) → i < j → meets p w i j ≡ true → false ≡ isClear (meetingFault p w j)
-met-shut p w i j l e = by (meetingFault p w j) refl
-  where
-    by : (f : Fault) → meetingFault p w j ≡ f → false ≡ isClear f
-    by Clear q = not-both e (clear-unmet p w j q i l)
-    by (Bad q) _ = refl
-
-pub unmet-open : (p w : List ℕ) (j : ℕ) → ((i : ℕ) → i < j → meets p w i j ≡ false) → true ≡ isClear (meetingFault p w j)
-unmet-open p w j h = sym (ap isClear (unmet-clear p w j h))
 
 -- ---- message k at column c and base row r
 module _ (p v : List ℕ) (k c r : ℕ) where
@@ -58,10 +43,11 @@ module _ (p v : List ℕ) (k c r : ℕ) where
     each = below-more _ k (λ j l. sym (fault-agree p j (agree-less (j + 1) (omega arith) (put-keeps v k c r))) ∙ S .each j l) e;
   }
 
-  -- where it stands by itself and meets no earlier message
-  pub put-stands : {w : List ℕ} {x : ℕ} {b : Bool} → Gives v k → w ≡ put v k c r → Stand p k v → Allowed p k r x → Has x c
-      → b ≡ isClear (meetingFault p w k) → b ≡ true → Stand p (k + 1) w
-  put-stands {w} room e S A h q t = rw e (put-stood S (put-fault room (A .only c h) (rw e at (clear-yes (meetingFault p w k) q t))))
+  -- where the earlier messages leave it a place
+  pub put-stands : {w : List ℕ} {x : ℕ} → Gives v k → w ≡ put v k c r → Stand p k v → LeftIn p k v k r x → Has x c → Stand p (k + 1) w
+  put-stands {w} room e S L h = rw e (put-stood S (put-fault room (L .own c h) (unmet-clear p (put v k c r) k λ i l.
+      never _ λ t. L .unmet c h i l (meets-clash (sym (put-keeps v k c r .columns-same i l)) (sym (put-keeps v k c r .rows-same i l)) (put-column v k c r room)
+      (put-row v k c r room) (meets-is p (put v k c r) i k (true-T t))))))
 
 -- ---- nothing without a fault that begins with v's first k has message k before column c and base row r
 pub record Gone (p : List ℕ) (k : ℕ) (v : List ℕ) (c r : ℕ) : Type 0 where
@@ -83,14 +69,11 @@ module _ (p : List ℕ) (k : ℕ) (v : List ℕ) where
   pub gone-shut : (c r : ℕ) → k < messages p → Gives v k → (fault p (put v k c r) k ≡ Clear → ⊥) → Gone p k v c r → Gone p k v c (r + 1)
   gone-shut c r h room f G = next c r G λ w S g ec er. f (fault-agree p k (put-agree v k c r room g ec er) ∙ S .each k h)
 
-  -- a place where message k may not stand by itself
-  pub gone-closed : (c r : ℕ) {x : ℕ} → k < messages p → Gives v k → Allowed p k r x → (Has x c → ⊥) → Gone p k v c r → Gone p k v c (r + 1)
-  gone-closed c r h room A n = gone-shut c r h room λ f. n (A .holds c (put-own p v k c r room f))
-
-  -- a place where it meets an earlier message
-  pub gone-met : (c r : ℕ) {w : List ℕ} {b : Bool} → k < messages p → Gives v k → w ≡ put v k c r → b ≡ isClear (meetingFault p w k) → b ≡ false
-      → Gone p k v c r → Gone p k v c (r + 1)
-  gone-met c r {w} h room e q n = gone-shut c r h room λ f. clear-no (meetingFault p w k) q n (rw e (put-clear p v k c r f))
+  -- a place that the earlier messages do not leave it
+  pub gone-closed : (c r : ℕ) {x : ℕ} → k < messages p → Gives v k → LeftIn p k v k r x → (Has x c → ⊥) → Gone p k v c r → Gone p k v c (r + 1)
+  gone-closed c r h room L n = gone-shut c r h room λ f. n (L .holds c (put-own p v k c r room f) λ i l K.
+      let M = clash-meets (sym (put-keeps v k c r .columns-same i l)) (sym (put-keeps v k c r .rows-same i l)) (put-column v k c r room) (put-row v k c r room) K in
+      not-both (T-true _ (is-meets p (put v k c r) i k M)) (clear-unmet p (put v k c r) k (put-clear p v k c r f) i l))
 
   -- a place behind which nothing was found
   pub gone-tried : (c r : ℕ) {w : List ℕ} → Gives v k → w ≡ put v k c r → Nowhere p (k + 1) w → Gone p k v c r → Gone p k v c (r + 1)

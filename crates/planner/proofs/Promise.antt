@@ -16,7 +16,7 @@ use Rattle.reader.specs.declared.answer.Read.{Read}
 use Rattle.reader.specs.declared.answer.Read.the-variants.{Refused as NotRead}
 use Rattle.reader.specs.Answer.{refusal}
 use Rattle.reader.specs.Promise.{Decoded, Opened}
-use Rattle.lookahead.specs.Cells.{mostPlanned}
+use Rattle.places.specs.Places.{mostPlanned}
 use Rattle.planner.specs.declared.answer.Planned.{Planned}
 use Rattle.planner.specs.declared.answer.Planned.the-variants.{Proposal, Refused}
 use Rattle.planner.specs.Search.{Best, Nowhere}

@@ -13,7 +13,7 @@ use Rattle.rules.specs.Problem.{messages, proposalWords}
 use Rattle.rules.specs.Refusal.{guard, _⊕_}
 use Rattle.problem.specs.File.{wordsOf}
 use Rattle.problem.specs.Wrong.{fileFault}
-use Rattle.lookahead.specs.Cells.{mostPlanned}
+use Rattle.places.specs.Places.{mostPlanned}
 use Rattle.planner.specs.declared.answer.Planned.{Planned}
 use Rattle.planner.specs.Answer.{paper, countOf}
 use Rattle.planner.specs.Least.{Plan, Least}

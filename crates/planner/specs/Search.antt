@@ -1,14 +1,14 @@
 -- What the search asks and answers at each call: its first k messages are placed as in v.
-use Prim.Native.Nat.{ℕ, _+_, _*_, _%_, _<_, _≤_}
+use Prim.Native.Nat.{ℕ, _+_, _*_, _<_, _≤_}
 use mathlib.Core.Path.{_≡_}
 use mathlib.Core.Bool.{Bool, true, false}
 use mathlib.Core.List.{List}
 use lib.ListN.{length, getD, set}
 use Rattle.basics.specs.Bits.{Has}
 use Rattle.rules.specs.Problem.{messages, repeat, column, row}
-use Rattle.rules.specs.Tests.{Stand}
-use Rattle.lookahead.specs.Cells.{mostPlanned, Few, Allows}
-use Rattle.lookahead.specs.Crowd.{Needs}
+use Rattle.rules.specs.declared.Fault.the-variants.{Clear}
+use Rattle.rules.specs.Tests.{ownFault, Stand}
+use Rattle.places.specs.Places.{mostPlanned, tableAt, Few, Steps, Clash}
 use Rattle.planner.specs.Order.{Agree, NotAfter}
 
 -- the words of a plan: as many as the longest proposal that is planned has
@@ -19,29 +19,28 @@ planWords = 2 * mostPlanned
 abbrev pub put : List ℕ → ℕ → ℕ → ℕ → List ℕ
 put v k c r = set (set v (2 * k) c) (2 * k + 1) r
 
--- the cell of row i and column d is one of the first k messages of v
-pub record Owned (p : List ℕ) (k : ℕ) (v : List ℕ) (i d : ℕ) : Type 0 where
-  pub by : ℕ
-  pub below : by < k
-  pub column-is : d ≡ column v by
-  pub row-is : i % repeat p by ≡ row v by
+-- x has exactly the columns in which message j may stand with base row r, by itself and beside the first k messages of v
+pub record LeftIn (p : List ℕ) (k : ℕ) (v : List ℕ) (j r x : ℕ) : Type 0 where
+  pub holds : (c : ℕ) → ownFault p j c r ≡ Clear → ((i : ℕ) → i < k → Clash p i (column v i) (row v i) j c r → ⊥) → Has x c
+  pub own : (c : ℕ) → Has x c → ownFault p j c r ≡ Clear
+  pub unmet : (c : ℕ) → Has x c → (i : ℕ) → i < k → Clash p i (column v i) (row v i) j c r → ⊥
 
--- and so is each cell of o
-pub record Owners (p : List ℕ) (k : ℕ) (v o : List ℕ) : Type 0 where
-  pub owner : (i d : ℕ) → Has (getD o i 0) d → Owned p k v i d
+-- the table t has such a word for each message from k on and each of its base rows
+pub record Leaves (p : List ℕ) (k : ℕ) (v t : List ℕ) : Type 0 where
+  pub each : (j r : ℕ) → k ≤ j → j < messages p → r < repeat p j → LeftIn p k v j r (getD t (tableAt j r) 0)
 
--- the search comes to message k: by the table t of places and the table n of needs it has placed the messages before, as in v, on the cells o
-pub record Begun (p t n : List ℕ) (k : ℕ) (v o : List ℕ) : Type 0 where
+-- the search comes to message k: it has placed those before, as in v, and the table t has the places that they leave
+pub record Begun (p s t : List ℕ) (k : ℕ) (v : List ℕ) : Type 0 where
   pub few : Few p
-  pub allows : Allows p t
-  pub needs : Needs p (messages p) n
+  pub steps : Steps p s
   pub within : k ≤ messages p
   pub stands : Stand p k v
-  pub owners : Owners p k v o
+  pub leaves : Leaves p k v t
 
--- the set l has no message before k
-pub record From (k l : ℕ) : Type 0 where
+-- the set l has the messages from k on, of n
+pub record From (k n l : ℕ) : Type 0 where
   pub late : (j : ℕ) → Has l j → k ≤ j
+  pub all : (j : ℕ) → k ≤ j → j < n → Has l j
 
 -- u, as long as v, is the least proposal without a fault that begins with v's first k placements
 pub record Best (p : List ℕ) (k : ℕ) (v u : List ℕ) : Type 0 where

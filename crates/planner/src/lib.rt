@@ -2,24 +2,16 @@
 pub mod answer;
 
 pub use answer::Planned;
-use lookahead::cells;
-use lookahead::crowd;
+pub use places::PLAN_WORDS;
 use reader::Read;
 use rules::Refusal;
-use rules::placing;
 use rules::words;
 ghost use mathlib.Core.Path.{_≡_};
 ghost use Prim.Native.Nat.{_<_, _≤_};
-ghost use Rattle.rules.specs.Refusal.{isClear};
-ghost use Rattle.rules.specs.Problem.{mostRows, mostColumns, WellFormed, Gives};
-ghost use Rattle.rules.specs.Parts.{Member};
-ghost use Rattle.rules.specs.Tests.{meetingFault};
-ghost use Rattle.lookahead.specs.Cells.{mostPlanned};
+ghost use Rattle.rules.specs.Problem.{mostRows, mostColumns, WellFormed};
+ghost use Rattle.places.specs.Places.{mostPlanned};
 ghost use Rattle.planner.specs.Search.{put, From, Begun, Searched};
 ghost use Rattle.planner.specs.Promise.{unready, Answered, Planning};
-
-// The words of a plan: as many as the longest proposal that is planned has.
-pub const PLAN_WORDS: usize = 2 * cells::MOST_PLANNED;
 
 // What a search found, if it found something.
 struct Found {
@@ -38,25 +30,10 @@ fn placed(plan: [u32; PLAN_WORDS], j: usize, c: usize, r: usize) -> [u32; PLAN_W
     next
 }
 
-// Whether message j meets no earlier message.
-fn is_clear(p: &[u32], w: &[u32], j: usize) -> bool
-    requires { ⌜ Member (now p) j × Gives (now w) j ⌝ }
-    ensures { λ b. ⌜ b ≡ isClear (meetingFault (now (p .entry)) (now (w .entry)) j) ⌝ }
-{
-    let mut i = 0;
-    while i < j {
-        if placing::do_meet(p, w, i, j) {
-            return false;
-        }
-        i += 1;
-    }
-    true
-}
-
 // The messages from `at` on, as a set.
 fn unplaced(at: usize, count: usize) -> u32
     requires { ⌜ count ≤ mostPlanned ⌝ }
-    ensures { λ l. ⌜ From at l ⌝ }
+    ensures { λ l. ⌜ From at count l ⌝ }
 {
     let mut left: u32 = 0;
     let mut j = at;
@@ -67,17 +44,26 @@ fn unplaced(at: usize, count: usize) -> u32
     left
 }
 
+// Whether message j stands in a plan at column c and base row r.
+fn stands_at(plan: &[u32; PLAN_WORDS], j: usize, c: usize, r: usize) -> bool
+    requires { ⌜ j < mostPlanned ⌝ }
+{
+    (basics::wide(plan[2 * j]) == c) & (basics::wide(plan[2 * j + 1]) == r)
+}
+
 // The least proposal that begins with the placements of the first `at` messages, or that there is none. The search calls itself on the
-// messages still unplaced, whose number falls by one at each call.
+// messages still unplaced, whose number falls by one at each call. Where it is known that they find room, `seen` has it.
 fn search(
     p: &[u32],
-    table: &[u32; cells::TABLE_WORDS],
-    needs: &[u32; cells::MOST_PLANNED],
+    steps: &[usize; places::MOST_PLANNED],
+    table: &[u32; places::TABLE_WORDS],
+    prices: &mut [u16; prices::CELLS],
     plan: [u32; PLAN_WORDS],
-    occupied: [u32; words::MOST_ROWS],
+    seen: [u32; PLAN_WORDS],
+    known: bool,
     at: usize,
 ) -> Found
-    requires { ⌜ Begun (now p) (now table) (now needs) at plan occupied ⌝ }
+    requires { ⌜ Begun (now p) (now steps) (now table) at plan ⌝ }
     ensures { λ f. ⌜ Searched (now (p .entry)) at plan (f .found) (f .plan) ⌝ }
 {
     let count = words::messages_of(p);
@@ -85,24 +71,27 @@ fn search(
         return Found { found: true, plan };
     }
     let left = unplaced(at, count);
-    if !lookahead::possible(p, table, needs, occupied, left, count - at) {
-        return Found { found: false, plan };
+    let mut room = seen;
+    if !known {
+        if !lookahead::has_room(p, steps, table, left, prices, &mut room, count - at) {
+            return Found { found: false, plan };
+        }
     }
-    let rows = words::rows_of(p);
+    let mut next = [basics::FILL; places::TABLE_WORDS];
+    let rest = unplaced(at + 1, count);
     let columns = words::columns_of(p);
-    let repeat = words::repeat_of(p, at);
+    let step = steps[at];
     let mut c = 0;
     while c < columns {
         let mut r = 0;
-        while r < repeat {
-            if basics::has_bit(table[cells::table_at(at, r)], c as u32) {
-                let next = placed(plan, at, c, r);
-                if is_clear(p, &next, at) {
-                    let taken = cells::occupy(occupied, rows, repeat, c, r);
-                    let got = search(p, table, needs, next, taken, at + 1);
-                    if got.found {
-                        return got;
-                    }
+        while r < step {
+            if basics::has_bit(table[places::table_at(at, r)], c as u32) {
+                places::beside(p, steps, table, rest, at, c, r, &mut next);
+                let longer = placed(plan, at, c, r);
+                let same = stands_at(&room, at, c, r);
+                let got = search(p, steps, &next, prices, longer, room, same, at + 1);
+                if got.found {
+                    return got;
                 }
             }
             r += 1;
@@ -118,18 +107,19 @@ fn plan_words(p: &[u32], proposal: &mut [u32]) -> Planned
     ensures { λ r. ⌜ Answered (unready (now (p .entry)) (now (proposal .entry))) (now (p .entry)) (now (proposal .entry)) (now (proposal .exit)) r ⌝ }
 {
     let count = words::messages_of(p);
-    if cells::MOST_PLANNED < count {
+    if places::MOST_PLANNED < count {
         return Planned::Refused(Refusal::TooMany);
     }
     let n = words::proposal_words(p);
     if proposal.len() < n {
         return Planned::Refused(Refusal::Room);
     }
-    let table = cells::allowed(p);
-    let needs = crowd::needs_of(p);
+    let mut table = [basics::FILL; places::TABLE_WORDS];
+    places::allowed(p, &mut table);
+    let steps = places::steps_of(p);
+    let mut prices = [prices::FIRST_PRICE; prices::CELLS];
     let unset = [0u32; PLAN_WORDS];
-    let free = [0u32; words::MOST_ROWS];
-    let got = search(p, &table, &needs, unset, free, 0);
+    let got = search(p, &steps, &table, &mut prices, unset, unset, false, 0);
     if !got.found {
         return Planned::Refused(Refusal::NoPlan);
     }

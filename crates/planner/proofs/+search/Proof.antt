@@ -1,59 +1,62 @@
 -- What the loops know: nothing without a fault that begins with the placements made has message `at` at a place passed. The first place behind which the call
 -- finds something is that of the least. The number of messages still unplaced falls with each call.
 use Prim.Native.Nat.{ℕ, _-_, _<_}
-use mathlib.Core.Path.{_≡_, sym, ap, _∙_}
+use mathlib.Core.Path.{_≡_, refl, sym, subst, _∙_}
 use mathlib.Core.Bool.{true}
 use mathlib.Core.Logic.{⊎-elim}
 use native.Mathlib.Omega.{arith}
 use borrow.Author.Tests.{eqb-true, eqb-false, not-true}
 use borrow.Kind.Array.{good-length, eInt}
 use mir.Syntax.{w32}
-use lib.ListN.{length, length-set}
+use lib.ListN.{length, getD}
 use borrow.Author.Needs.{needs}
 use borrow.Fn.Kinds.{In, Out}
 use borrow.Fn.PlainCycle.{Measures, is, falls, and}
 use Rattle.rules.specs.Problem.{messages, Gives}
-use Rattle.rules.proofs.Bounds.{member}
-use Rattle.planner.specs.Search.{planWords}
-use Rattle.planner.proofs.Gone.{Gone, gone-start, gone-closed, gone-met, gone-tried, gone-column, gone-all, found, whole, put-stands}
-use Rattle.planner.proofs.Room.{owners-more, no-room}
+use Rattle.rules.specs.Parts.{Repeat}
+use Rattle.places.specs.Places.{mostPlanned, tableWords}
+use Rattle.planner.specs.Search.{planWords, LeftIn, From}
+use Rattle.planner.proofs.Gone.{Gone, gone-start, gone-closed, gone-tried, gone-column, gone-all, found, whole, put-stands}
+use Rattle.planner.proofs.Room.{from-all, leaves-more, no-room}
 use Rattle.planner.proofs.search.Reads as search′
 use Rattle.planner.proofs.search.Kinds as search-kinds
 use Rattle.planner.proofs.+search.Lts-search as search-lts
 use Rattle.basics.proofs.has_bit.Reads as has-bit-reads
-use Rattle.lookahead.proofs.cells.occupy.Reads as occupy-reads
-use Rattle.lookahead.proofs.cells.table_at.Reads as table-at-reads
-use Rattle.lookahead.proofs.possible.Reads as possible-reads
-use Rattle.planner.proofs.is_clear.Reads as is-clear-reads
+use Rattle.places.proofs.beside.Reads as beside-reads
+use Rattle.places.proofs.table_at.Reads as table-at-reads
+use Rattle.lookahead.proofs.has_room.Reads as has-room-reads
 use Rattle.planner.proofs.placed.Reads as placed-reads
+use Rattle.planner.proofs.stands_at.Reads as stands-at-reads
 use Rattle.planner.proofs.unplaced.Reads as unplaced-reads
 use Rattle.rules.proofs.words.columns_of.Reads as columns-of-reads
 use Rattle.rules.proofs.words.messages_of.Reads as messages-of-reads
-use Rattle.rules.proofs.words.repeat_of.Reads as repeat-of-reads
-use Rattle.rules.proofs.words.rows_of.Reads as rows-of-reads
 use Rattle.planner.proofs.+search.{statement}
 use Rattle.planner.proofs.+search.Tie.{close}
 
-abbrev μ-search : Measures 3 search-kinds.ps ℕ
-μ-search κs a = messages (a .0 .now) - a .1 .1 .1 .1 .1 .0
+abbrev μ-search : Measures 4 search-kinds.ps ℕ
+μ-search κs a = messages (a .0 .now) - a .1 .1 .1 .1 .1 .1 .1 .0
 
-abbrev search-at : ℕ → In 3 search-kinds.ps
-search-at t = and 3 search-kinds.ps (is 3 search-kinds.ps μ-search t) search′.Pre
+abbrev search-at : ℕ → In 4 search-kinds.ps
+search-at t = and 4 search-kinds.ps (is 4 search-kinds.ps μ-search t) search′.Pre
 
-abbrev search-below : ℕ → In 3 search-kinds.ps
-search-below t = and 3 search-kinds.ps (falls 3 search-kinds.ps _<_ μ-search t) search′.Pre
+abbrev search-below : ℕ → In 4 search-kinds.ps
+search-below t = and 4 search-kinds.ps (falls 4 search-kinds.ps _<_ μ-search t) search′.Pre
 
 abbrev search-Inv-loop2 : search-lts.InvT-loop2
-search-Inv-loop2 p table wants plan occupied at count left rows columns times c r₀ r = Gone p at plan c r
+search-Inv-loop2 p steps table prices₀ plan known at count left room next₀ rest columns step c r₀ prices next r =
+    Gone p at plan c r × (length next ≡ tableWords)
 
 abbrev search-μ-loop2 : search-lts.MeasureT-loop2
-search-μ-loop2 p table wants plan occupied at count left rows columns times c r₀ r = times - r
+search-μ-loop2 p steps table prices₀ plan known at count left room next₀ rest columns step c r₀ prices next r =
+    step - r
 
 abbrev search-Inv-loop : search-lts.InvT-loop
-search-Inv-loop p table wants plan occupied at count left rows columns times c₀ c = Gone p at plan c 0
+search-Inv-loop p steps table prices₀ plan known at count left room next₀ rest columns step c₀ prices next c =
+    Gone p at plan c 0 × (length next ≡ tableWords)
 
 abbrev search-μ-loop : search-lts.MeasureT-loop
-search-μ-loop p table wants plan occupied at count left rows columns times c₀ c = columns - c
+search-μ-loop p steps table prices₀ plan known at count left room next₀ rest columns step c₀ prices next c =
+    columns - c
 
 abbrev search-claims : ℕ → search-lts.Claims
 search-claims t = (
@@ -61,24 +64,20 @@ search-claims t = (
   messages-of-reads.Learnt,
   unplaced-reads.Asked,
   unplaced-reads.Learnt,
-  possible-reads.Asked,
-  possible-reads.Learnt,
-  rows-of-reads.Asked,
-  rows-of-reads.Learnt,
+  has-room-reads.Asked,
+  has-room-reads.Learnt,
   columns-of-reads.Asked,
   columns-of-reads.Learnt,
-  repeat-of-reads.Asked,
-  repeat-of-reads.Learnt,
   table-at-reads.Asked,
   table-at-reads.Learnt,
   has-bit-reads.Asked,
   has-bit-reads.Learnt,
+  beside-reads.Asked,
+  beside-reads.Learnt,
   placed-reads.Asked,
   placed-reads.Learnt,
-  is-clear-reads.Asked,
-  is-clear-reads.Learnt,
-  occupy-reads.Asked,
-  occupy-reads.Learnt,
+  stands-at-reads.Asked,
+  stands-at-reads.Learnt,
   search-below t,
   search′.Post,
 )
@@ -87,8 +86,8 @@ search-claims t = (
 abbrev search-Place : Type 1
 search-Place =
     search-lts.Claims
-    → In 3 search-kinds.ps
-    → Out 3 search-kinds.ps search-kinds.r
+    → In 4 search-kinds.ps
+    → Out 4 search-kinds.ps search-kinds.r
     → search-lts.InvT-loop2
     → search-lts.MeasureT-loop2
     → search-lts.InvT-loop
@@ -101,100 +100,124 @@ search-there N t = N (search-claims t) (search-at t) search′.Post search-Inv-l
 abbrev search-asks : search-Place → Type 0
 search-asks N = (t : ℕ) → search-there N t
 
--- the plan that comes in has the words of a plan
-plan-length : (t : ℕ) (c : search-there search-lts.Start t) → length (c .args .plan) ≡ planWords
-plan-length t c = good-length (eInt w32) planWords (c .args .plan) _ (c .good .1 .1 .1 .0)
+-- from where there is a message to place back to the call's start; from a place of it back to the message; from the next plan back to the place
+abbrev begun : (t : ℕ) → search-there search-lts.Else1 t → search-there search-lts.Start t
+begun t c = c .before .before .before
 
--- so there is room for the message that the search has come to
-below : (t : ℕ) (c : search-there search-lts.Else1 t) → c .before .before .before .args .at < messages (c .before .before .before .args .p .now)
+abbrev message : (t : ℕ) → search-there search-lts.After-table-at t → search-there search-lts.Else1 t
+message t c = c .before .before .before .before .before .before .before .before .before .before
+
+abbrev place : (t : ℕ) → search-there search-lts.After-placed t → search-there search-lts.After-table-at t
+place t c = c .before .before .before .before .before .before
+
+-- it is a message, one of those that are planned, and the plan has room for it
+below : (t : ℕ) (c : search-there search-lts.Else1 t) → begun t c .args .at < messages (begun t c .args .p .now)
 below t c = omega arith
 
-room : (t : ℕ) (c : search-there search-lts.Else1 t) → Gives (c .before .before .before .args .plan) (c .before .before .before .args .at)
-room t c = omega (arith, below t c, plan-length t (c .before .before .before), c .before .before .before .pre .1 .few .most)
+few : (t : ℕ) (c : search-there search-lts.Else1 t) → begun t c .args .at < mostPlanned
+few t c = omega (arith, below t c, begun t c .pre .1 .few .most)
 
--- and the next plan has as many words
-next-length : (t : ℕ) (c : search-there search-lts.After-placed t) → length (c .placed .result) ≡ planWords
-next-length t c =
-    let start = c .before .before .before .before .before .before .before .before .before .before .before .before .before .before .before .before .before .before in
-    ap length (c .placed .ensures) ∙ simp length-set (plan-length t start)
+room : (t : ℕ) (c : search-there search-lts.Else1 t) → Gives (begun t c .args .plan) (begun t c .args .at)
+room t c = omega (arith, few t c, good-length (eInt w32) planWords (begun t c .args .plan) _ (begun t c .good .1 .1 .1 .1 .0))
+
+-- how often it is sent, and the columns that are left it with a base row
+often : (t : ℕ) (c : search-there search-lts.Else1 t) → Repeat (begun t c .args .p .now) (begun t c .args .at) (getD (begun t c .args .steps .now) (begun t c .args .at) 0)
+often t c = begun t c .pre .1 .steps .each _ (below t c)
+
+left : (t : ℕ) (c : search-there search-lts.After-table-at t)
+    → LeftIn (begun t (message t c) .args .p .now) (begun t (message t c) .args .at) (begun t (message t c) .args .plan) (begun t (message t c) .args .at)
+    (c .before .before .loop2 .r) (getD (begun t (message t c) .args .table .now) (c .table-at .result) 0)
+left t c =
+    let old = message t c in
+    let asked = begun t old .args in
+    let r = c .before .before .loop2 .r in
+    subst (λ (k : ℕ). LeftIn (asked .p .now) (asked .at) (asked .plan) (asked .at) r (getD (asked .table .now) k 0)) (sym (c .table-at .ensures .0))
+    (begun t old .pre .1 .leaves .each (asked .at) r (omega arith) (below t old) (omega (arith, often t old .is, c .before .loop2-test .taken)))
+
+-- the messages behind it
+behind : (t : ℕ) (c : search-there search-lts.Else1 t) {k l : ℕ} → From k (c .before .messages-of .result) l → From k (messages (begun t c .args .p .now)) l
+behind t c F = from-all (omega (arith, c .before .messages-of .ensures .0)) F
 
 search-returns : search-asks search-lts.Need-returns
 search-returns t c = whole _ _ _ (omega arith) (c .before .before .before .pre .1 .stands)
 
-search-possible-requires : search-asks search-lts.Need-possible-requires
-search-possible-requires t c κs = let pre = c .before .before .before .before .pre .1 in (pre .few, (pre .allows, pre .needs))
+search-has-room-requires : search-asks search-lts.Need-has-room-requires
+search-has-room-requires t c κs = let asked = c .before .before .before .before .before .before .before .pre .1 in (asked .few, asked .steps)
 
 search-returns-2 : search-asks search-lts.Need-returns-2
 search-returns-2 t c =
-    let pre = c .before .before .before .before .before .before .pre .1 in
-    no-room (pre .few) (pre .within) (pre .owners) (c .before .before .unplaced .ensures) (c .before .possible .ensures) (not-true _ (c .if2 .taken))
+    let old = c .before .before .before .before .before .before in
+    let asked = begun t old .pre .1 in
+    let others = behind t old (c .before .before .before .before .before .unplaced .ensures) in
+    no-room (asked .within) (asked .leaves) others (c .before .has-room .ensures) (not-true _ (c .if3 .taken))
 
-search-repeat-of-requires : search-asks search-lts.Need-repeat-of-requires
-search-repeat-of-requires t c κs = member (c .before .before .before .before .before .before .before .before .pre .1 .few .formed) (omega arith)
+search-element-copy-out-step : search-asks search-lts.Need-element-copy-out-step
+search-element-copy-out-step t c = few t (c .before .before .before .before)
 
 search-loop-holds : search-asks search-lts.Need-loop-holds
-search-loop-holds t c = gone-start _ _ _
+search-loop-holds t c = (gone-start _ _ _, refl)
 
-search-slice-aggregate-is-clear : search-asks search-lts.Need-slice-aggregate-is-clear
-search-slice-aggregate-is-clear t c = sym (next-length t (c .before))
+search-table-at-requires : search-asks search-lts.Need-table-at-requires
+search-table-at-requires t c κs = let old = c .before .before .before .before .before .before .before .before .before in (few t old, omega (arith, often t old .most))
 
-search-is-clear-requires : search-asks search-lts.Need-is-clear-requires
-search-is-clear-requires t c κs =
-    let old = c .before .before .before .before .before .before .before .before .before .before .before .before .before .before .before .before in
-    let few = old .before .before .before .pre .1 .few in
-    (member (few .formed) (below t old), omega (arith, next-length t (c .before), few .most, below t old))
+search-beside-requires : search-asks search-lts.Need-beside-requires
+search-beside-requires t c κs =
+    let at = c .before .before .before .before in
+    let old = message t at in
+    let asked = begun t old .pre .1 in
+    (asked .few, (asked .steps, ((below t old, omega arith), at .before .before .loop2 .inv .1)))
+
+search-placed-requires : search-asks search-lts.Need-placed-requires
+search-placed-requires t c κs = let old = message t (c .before .before .before .before .before) in (few t old, omega arith, omega (arith, often t old .most))
+
+search-stands-at-requires : search-asks search-lts.Need-stands-at-requires
+search-stands-at-requires t c κs = few t (message t (place t (c .before)))
 
 search-search-requires : search-asks search-lts.Need-search-requires
 search-search-requires t c κs =
-    let test = c .before .before .before .before .before in
-    let place = test .before .before .before .before .before in
-    let old = place .before .before .before .before .before .before .before .before .before in
-    let begun = old .before .before .before .pre .1 in
-    let next = c .before .before .before .before .placed .ensures in
-    let times = place .before .before .before .repeat-of .ensures .is in
-    let inside = eqb-true _ _ (sym (test .before .has-bit .ensures) ∙ test .if3 .taken) in
-    let at = test .before .before .before .table-at .ensures .0 in
-    let may = begun .allows .each _ (place .loop2 .r) (below t old) (omega arith) in (
-      omega (arith, old .before .before .before .pre .0, below t old),
+    let put = c .before .before .before .before in
+    let at = place t put in
+    let old = message t at in
+    let asked = begun t old .pre .1 in
+    let test = put .before .before .before in
+    let inside = eqb-true _ _ (sym (test .before .has-bit .ensures) ∙ test .if4 .taken) in
+    let others = behind t old (at .before .before .before .before .before .before .before .unplaced2 .ensures) in (
+      omega (arith, begun t old .pre .0, below t old),
       record {
-        few = begun .few;
-        allows = begun .allows;
-        needs = begun .needs;
+        few = asked .few;
+        steps = asked .steps;
         within = omega (arith, below t old);
-        stands = put-stands _ _ _ _ _ (room t old) next (begun .stands) (rw at may) inside (c .before .before .is-clear .ensures) (c .before .if4 .taken);
-        owners = owners-more _ _ _ (room t old) next times (begun .owners) (c .occupy .ensures);
+        stands = put-stands _ _ _ _ _ (room t old) (put .placed .ensures) (asked .stands) (left t at) inside;
+        leaves = leaves-more _ _ _ _ _ (room t old) (asked .few) (put .placed .ensures) others (asked .leaves) (put .before .beside .ensures .0);
       },
     )
 
 search-returns-3 : search-asks search-lts.Need-returns-3
 search-returns-3 t c =
-    let place = c .before .before .before .before .before .before .before .before .before .before .before .before in
-    let old = place .before .before .before .before .before .before .before .before .before in
+    let put = c .before .before .before .before .before .before in
+    let at = place t put in
+    let old = message t at in
     let yes : c .before .search .result .found ≡ true = c .if5 .taken in
-    rw yes
-    (found _ _ _ _ _ (below t old) (room t old) (c .before .before .before .before .before .before .placed .ensures)
-    (rw yes at (c .before .search .ensures)) (place .loop2 .inv))
+    rw yes (found _ _ _ _ _ (below t old) (room t old) (put .placed .ensures) (rw yes at (c .before .search .ensures)) (at .before .before .loop2 .inv .0))
 
 search-loop2-again : search-asks search-lts.Need-loop2-again
 search-loop2-again t c =
-    let place = c .before .before .before .before .before in
-    let old = place .before .before .before .before .before .before .before .before .before in
-    let at = c .before .before .before .table-at .ensures .0 in
-    let inv = place .loop2 .inv in
-    let times = place .before .before .before .repeat-of .ensures .is in
+    let at = c .before .before .before in
+    let old = message t at in
+    let inv = at .before .before .loop2 .inv in
     ⊎-elim
-    (λ w. gone-tried _ _ _ _ _ (room t old) (w .1 .ensures) (rw (w .7 .left) at (w .6 .ensures)) inv)
-    (⊎-elim
-    (λ w. gone-met _ _ _ _ _ (below t old) (room t old) (w .1 .ensures) (w .3 .ensures) (w .4 .left) inv)
-    (λ w. gone-closed _ _ _ _ _ (below t old) (room t old) (rw at (old .before .before .before .pre .1 .allows .each _ _ (below t old) (omega arith)))
-    (eqb-false _ _ (sym (c .before .has-bit .ensures) ∙ w .left)) inv))
-    (c .if3 .came)
+    (λ w. (gone-tried _ _ _ _ _ (room t old) (w .3 .ensures) (rw (w .9 .left) at (w .8 .ensures)) (inv .0), rw (w .11) (w .2 .ensures .1)))
+    (λ w. (gone-closed _ _ _ _ _ (below t old) (room t old) (left t at) (eqb-false _ _ (sym (c .before .has-bit .ensures) ∙ w .0 .left)) (inv .0), rw (w .2) (inv .1)))
+    (c .if4 .came)
 
 search-loop-again : search-asks search-lts.Need-loop-again
-search-loop-again t c = gone-column _ _ _ _ (c .before .loop2 .r) (omega arith) (omega arith) (c .before .loop2 .inv)
+search-loop-again t c =
+    let inv = c .before .loop2 .inv in
+    let old = c .before .before .before .before .before .before .before .before .before in
+    (gone-column _ _ _ _ (c .before .loop2 .r) (omega arith) (omega (arith, often t old .is)) (inv .0), inv .1)
 
 search-returns-4 : search-asks search-lts.Need-returns-4
-search-returns-4 t c = gone-all _ _ _ (c .before .loop .c) (omega arith) (omega arith) (c .before .loop .inv)
+search-returns-4 t c = gone-all _ _ _ (c .before .loop .c) (omega arith) (omega arith) (c .before .loop .inv .0)
 
 pub +search-spec : {M : Type 1} → statement M
 +search-spec =
@@ -203,22 +226,23 @@ pub +search-spec : {M : Type 1} → statement M
     (search-returns t)
     (λ c κs. search needs)
     (λ c. search needs)
-    (search-possible-requires t)
+    (search-has-room-requires t)
     (search-returns-2 t)
+    (λ c. search needs)
     (λ c κs. search needs)
     (λ c κs. search needs)
-    (search-repeat-of-requires t)
+    (λ c. search needs)
+    (search-element-copy-out-step t)
     (search-loop-holds t)
     (λ c. search needs)
-    (λ c κs. search needs)
+    (search-table-at-requires t)
     (λ c. search needs)
     (λ c. search needs)
     (λ c. search needs)
     (λ c κs. search needs)
-    (λ c κs. search needs)
-    (search-slice-aggregate-is-clear t)
-    (search-is-clear-requires t)
-    (λ c κs. search needs)
+    (search-beside-requires t)
+    (search-placed-requires t)
+    (search-stands-at-requires t)
     (λ c. search needs)
     (search-search-requires t)
     (search-returns-3 t)

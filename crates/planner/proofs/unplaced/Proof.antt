@@ -1,14 +1,14 @@
--- Only messages from the first one on are set, since the loop begins there.
+-- The messages passed are set, and no others, since the loop begins with the first.
 use Prim.Native.Nat.{_-_, _≤_}
 use native.Mathlib.Omega.{arith}
 use borrow.Author.Needs.{needs}
 use Rattle.planner.specs.Search.{From}
-use Rattle.planner.proofs.Room.{from-none, from-more}
+use Rattle.planner.proofs.Room.{from-none, from-more, from-all}
 use Rattle.planner.proofs.unplaced.Statement.{statement}
 use Rattle.planner.proofs.unplaced.Tie as tie
 
 abbrev Inv-loop : tie.InvT-loop
-Inv-loop at count left₀ j₀ left j = (at ≤ j) × From at left
+Inv-loop at count left₀ j₀ left j = (at ≤ j) × From at j left
 
 abbrev μ-loop : tie.MeasureT-loop
 μ-loop at count left₀ j₀ left j = count - j
@@ -20,7 +20,7 @@ loop-again : tie.Need-loop-again Inv-loop μ-loop
 loop-again c = let inv = c .before .before .loop .inv in (omega arith, from-more (inv .0) (inv .1) (c .with-bit .ensures))
 
 returns : tie.Need-returns Inv-loop μ-loop
-returns c = c .before .loop .inv .1
+returns c = from-all (omega arith) (c .before .loop .inv .1)
 
 pub unplaced-spec : {M : Type 1} → statement M
 unplaced-spec =

@@ -1,0 +1,54 @@
+-- Laws of the columns that a message may take by itself.
+use Prim.Native.Nat.{ℕ, _+_, _<_, _≤_}
+use mathlib.Core.Path.{_≡_, refl, ap, _∙_}
+use mathlib.Core.Bool.{Bool, true, false}
+use mathlib.Core.List.{List}
+use mathlib.Core.Logic.{⊎-elim}
+use native.Mathlib.Omega.{arith}
+use borrow.Author.Count.{below-more}
+use Rattle.basics.specs.Bits.{Has, Joined}
+use Rattle.basics.proofs.Bits.{bit-zero}
+use Rattle.basics.proofs.Tests.{not-both}
+use Rattle.rules.specs.Refusal.{isClear}
+use Rattle.rules.specs.declared.Fault.{Fault}
+use Rattle.rules.specs.declared.Fault.the-variants.{Clear, Bad}
+use Rattle.rules.specs.Problem.{columns}
+use Rattle.rules.specs.Tests.{ownFault}
+use Rattle.places.specs.Places.{Allowed}
+use Rattle.places.proofs.Meets.{own-placed}
+
+pub has-none : (d : ℕ) → Has 0 d → ⊥
+has-none d h = omega (arith, bit-zero d, h)
+
+-- ---- a test that found nothing, and one that found something
+pub clear-yes : (f : Fault) {b : Bool} → b ≡ isClear f → b ≡ true → f ≡ Clear
+clear-yes Clear e t = refl
+clear-yes (Bad q) e t = not-both t e
+
+pub clear-no : (f : Fault) {b : Bool} → b ≡ isClear f → b ≡ false → f ≡ Clear → ⊥
+clear-no f e n h = not-both (e ∙ ap isClear h) n
+
+-- ---- one message by itself
+-- x has exactly the columns below n in which message j may stand with base row r
+pub record AllowedBelow (p : List ℕ) (j r n x : ℕ) : Type 0 where
+  pub holds : (c : ℕ) → c < n → ownFault p j c r ≡ Clear → Has x c
+  pub only : (c : ℕ) → Has x c → ownFault p j c r ≡ Clear
+
+module _ (p : List ℕ) (j r : ℕ) where
+  pub allowed-none : AllowedBelow p j r 0 0
+  allowed-none = record { holds = λ c l e. absurd (omega arith); only = λ c h. absurd (has-none c h) }
+
+  pub allowed-set : {n x y : ℕ} {b : Bool} → AllowedBelow p j r n x → b ≡ isClear (ownFault p j n r) → b ≡ true → Joined x n y → AllowedBelow p j r (n + 1) y
+  allowed-set {n} A e t J = record {
+    holds = below-more _ n (λ c l f. J .keeps c (A .holds c l f)) (λ f. J .here);
+    only = λ c g. ⊎-elim (λ q. rw q (clear-yes (ownFault p j n r) e t)) (λ k. A .only c k) (J .only c g);
+  }
+
+  pub allowed-skip : {n x : ℕ} {b : Bool} → AllowedBelow p j r n x → b ≡ isClear (ownFault p j n r) → b ≡ false → AllowedBelow p j r (n + 1) x
+  allowed-skip {n} A e t = record {
+    holds = below-more _ n (λ c l f. A .holds c l f) (λ f. absurd (clear-no (ownFault p j n r) e t f));
+    only = A .only;
+  }
+
+  pub allowed-all : {n x : ℕ} → columns p ≤ n → AllowedBelow p j r n x → Allowed p j r x
+  allowed-all h A = record { holds = λ c e. let l = own-placed p j c r e .column-below in A .holds c (omega arith) e; only = A .only }

@@ -1,0 +1,4 @@
+pub mod Meets
+pub mod Covering
+pub mod Tables
+pub mod Striking

@@ -1,0 +1,44 @@
+-- The word has exactly the columns, among those passed, in which the message may stand: the next one is set where the test finds nothing wrong.
+use Prim.Native.Nat.{_-_}
+use mathlib.Core.Logic.{⊎-elim}
+use native.Mathlib.Omega.{arith}
+use borrow.Author.Needs.{needs}
+use Rattle.places.proofs.Covering.{AllowedBelow, allowed-none, allowed-set, allowed-skip, allowed-all}
+use Rattle.places.proofs.allowed_in.Statement.{statement}
+use Rattle.places.proofs.allowed_in.Tie as tie
+
+abbrev Inv-loop : tie.InvT-loop
+Inv-loop p j r columns x₀ c₀ x c = AllowedBelow p j r c x
+
+abbrev μ-loop : tie.MeasureT-loop
+μ-loop p j r columns x₀ c₀ x c = columns - c
+
+loop-holds : tie.Need-loop-holds Inv-loop μ-loop
+loop-holds c = allowed-none _ _ _
+
+loop-again : tie.Need-loop-again Inv-loop μ-loop
+loop-again c =
+    let inv = c .before .before .before .loop .inv in
+    ⊎-elim
+    (λ w. rw (w .2) (allowed-set _ _ _ inv (c .before .may-stand .ensures) (w .0 .taken) (w .1 .ensures)))
+    (λ w. rw (w .1) (allowed-skip _ _ _ inv (c .before .may-stand .ensures) (w .0 .left)))
+    (c .if1 .came)
+
+returns : tie.Need-returns Inv-loop μ-loop
+returns c = allowed-all _ _ _ (omega arith) (c .before .loop .inv)
+
+pub allowed-in-spec : {M : Type 1} → statement M
+allowed-in-spec =
+    tie.close
+    (tie.spec
+    Inv-loop
+    μ-loop
+    (λ c κs. search needs)
+    loop-holds
+    (λ c κs. search needs)
+    (λ c. search needs)
+    (λ c κs. search needs)
+    (λ c. search needs)
+    (λ c. search needs)
+    loop-again
+    returns)
