@@ -1,5 +1,6 @@
-// The cases that the documents work by hand, each run and compared.
+// The cases that the documents work by hand, the limits and crowded problems, each run and compared.
 mod build;
+mod crowded;
 mod document_000;
 mod document_001;
 mod document_003;
@@ -8,7 +9,7 @@ mod document_01;
 mod limits;
 mod show;
 
-// Document by document.
+// Document by document, and then our own.
 fn main() {
     document_01::run();
     document_000::run();
@@ -16,4 +17,5 @@ fn main() {
     document_003::run();
     document_004::run();
     limits::run();
+    crowded::run();
 }
