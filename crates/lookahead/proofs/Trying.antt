@@ -8,18 +8,14 @@ use native.Mathlib.Omega.{arith}
 use lib.ListN.{length, getD, set}
 use lib.Seq.{getD-set-same, getD-set-other}
 use Rattle.basics.specs.Bits.{Has, Cleared}
+use Rattle.basics.proofs.Bits.{has-none}
 use Rattle.basics.proofs.Tests.{not-both}
-use Rattle.rules.specs.Problem.{messages, repeat, column, row, Placed}
+use Rattle.rules.specs.Problem.{messages, repeat, column, row}
 use Rattle.rules.specs.Tests.{Stand}
 use Rattle.rules.proofs.Bounds.{member, repeat-most}
 use Rattle.places.specs.Places.{tableAt, Few, Beside, Copied, FirstRow, Within, Shut, Narrowed}
 use Rattle.lookahead.specs.Probe.{Cautious}
-use Rattle.places.proofs.Covering.{has-none}
-use Rattle.places.proofs.Meets.{own-placed, fault-own, clash-meets, not-met}
-
--- where a message of what has no fault stands
-stands : {p w : List ℕ} → Stand p (messages p) w → (j : ℕ) → j < messages p → Placed p j (column w j) (row w j)
-stands {p} {w} S j l = own-placed p j _ _ (fault-own p w j (S .each j l))
+use Rattle.places.proofs.Meets.{stands, low-column, clash-meets, not-met}
 
 -- ---- a message without a place
 pub shut-none : {p a : List ℕ} {l m n r : ℕ} → m < messages p → Has l m → FirstRow a m n r → repeat p m ≤ r → Shut p a l
@@ -35,9 +31,7 @@ module _ {p a b : List ℕ} {l l′ m c d r : ℕ} (F : Few p) (lm : m < message
   not-there {w} S W er ec = T .none w S (record {
     has = λ k lk hk.
         let at = stands S k lk in
-        let most = F .formed .header .columns-most in
-        let wide = at .column-below in
-        B .each k (row w k) lk hk (at .row-below) .keeps (column w k) (omega arith) (W .has k lk (C .only k hk))
+        B .each k (row w k) lk hk (at .row-below) .keeps (column w k) (low-column F at) (W .has k lk (C .only k hk))
         (λ x. not-met S m k lm lk (λ q. C .gone (subst (λ (j : ℕ). Has l′ j) (sym q) hk)) (clash-meets (ec ∙ sym e) er refl refl x));
   })
 
@@ -58,7 +52,7 @@ module _ {p a b : List ℕ} {l l′ m c d r : ℕ} (F : Few p) (lm : m < message
                 let cols = F .formed .header .columns-most in
                 subst (λ (k : ℕ). Has (getD (set a at x) k 0) (column w j)) (sym f)
                 (subst (λ (y : ℕ). Has y (column w j)) (sym (getD-set-same a at x 0 room))
-                (D .keeps (column w j) (omega arith)
+                (D .keeps (column w j) (low-column F here)
                 (λ ec. not-there S W (subst (λ (k : ℕ). row w k ≡ r) ej er) (subst (λ (k : ℕ). column w k ≡ c) ej ec))
                 (subst (λ (k : ℕ). Has (getD a k 0) (column w j)) f old)))
             | no f ↦ subst (λ (y : ℕ). Has y (column w j)) (sym (getD-set-other a at _ x 0 f)) old

@@ -1,34 +1,22 @@
 -- Laws of the columns that a message may take by itself.
 use Prim.Native.Nat.{ℕ, _+_, _<_, _≤_}
-use mathlib.Core.Path.{_≡_, refl, ap, _∙_}
+use mathlib.Core.Path.{_≡_, sym, ap, _∙_}
 use mathlib.Core.Bool.{Bool, true, false}
 use mathlib.Core.List.{List}
 use mathlib.Core.Logic.{⊎-elim}
 use native.Mathlib.Omega.{arith}
 use borrow.Author.Count.{below-more}
 use Rattle.basics.specs.Bits.{Has, Joined}
-use Rattle.basics.proofs.Bits.{bit-zero}
-use Rattle.basics.proofs.Tests.{not-both}
+use Rattle.basics.proofs.Bits.{has-none}
+use Rattle.basics.proofs.Tests.{true-T, not-both}
 use Rattle.rules.specs.Refusal.{isClear}
-use Rattle.rules.specs.declared.Fault.{Fault}
-use Rattle.rules.specs.declared.Fault.the-variants.{Clear, Bad}
+use Rattle.rules.specs.declared.Fault.the-variants.{Clear}
 use Rattle.rules.specs.Problem.{columns}
 use Rattle.rules.specs.Tests.{ownFault}
+use Rattle.rules.proofs.Faults.{clear-is}
 use Rattle.places.specs.Places.{Allowed}
 use Rattle.places.proofs.Meets.{own-placed}
 
-pub has-none : (d : ℕ) → Has 0 d → ⊥
-has-none d h = omega (arith, bit-zero d, h)
-
--- ---- a test that found nothing, and one that found something
-pub clear-yes : (f : Fault) {b : Bool} → b ≡ isClear f → b ≡ true → f ≡ Clear
-clear-yes Clear e t = refl
-clear-yes (Bad q) e t = not-both t e
-
-pub clear-no : (f : Fault) {b : Bool} → b ≡ isClear f → b ≡ false → f ≡ Clear → ⊥
-clear-no f e n h = not-both (e ∙ ap isClear h) n
-
--- ---- one message by itself
 -- x has exactly the columns below n in which message j may stand with base row r
 pub record AllowedBelow (p : List ℕ) (j r n x : ℕ) : Type 0 where
   pub holds : (c : ℕ) → c < n → ownFault p j c r ≡ Clear → Has x c
@@ -41,12 +29,12 @@ module _ (p : List ℕ) (j r : ℕ) where
   pub allowed-set : {n x y : ℕ} {b : Bool} → AllowedBelow p j r n x → b ≡ isClear (ownFault p j n r) → b ≡ true → Joined x n y → AllowedBelow p j r (n + 1) y
   allowed-set {n} A e t J = record {
     holds = below-more _ n (λ c l f. J .keeps c (A .holds c l f)) (λ f. J .here);
-    only = λ c g. ⊎-elim (λ q. rw q (clear-yes (ownFault p j n r) e t)) (λ k. A .only c k) (J .only c g);
+    only = λ c g. ⊎-elim (λ q. rw q (clear-is (ownFault p j n r) (true-T (sym e ∙ t)))) (λ k. A .only c k) (J .only c g);
   }
 
   pub allowed-skip : {n x : ℕ} {b : Bool} → AllowedBelow p j r n x → b ≡ isClear (ownFault p j n r) → b ≡ false → AllowedBelow p j r (n + 1) x
   allowed-skip {n} A e t = record {
-    holds = below-more _ n (λ c l f. A .holds c l f) (λ f. absurd (clear-no (ownFault p j n r) e t f));
+    holds = below-more _ n (λ c l f. A .holds c l f) (λ f. not-both (e ∙ ap isClear f) t);
     only = A .only;
   }
 

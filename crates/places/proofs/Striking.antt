@@ -8,10 +8,10 @@ use native.Mathlib.Omega.{arith}
 use lib.Arith.{digits-mod}
 use lib.ListN.{length, getD, set}
 use Rattle.basics.specs.Bits.{Cleared}
+use Rattle.basics.proofs.Tests.{below-or}
 use Rattle.rules.specs.Problem.{mostRows, messages}
 use Rattle.rules.specs.Tests.{common}
 use Rattle.places.specs.Places.{tableAt, Steps, Spared, Copied, Beside}
-use Rattle.places.proofs.Meets.{below-or}
 use Rattle.places.proofs.Tables.{Row, row-start, row-more, row-stay}
 
 -- from a number to the next with the same rest there is none

@@ -7,10 +7,10 @@ use native.Mathlib.Omega.{arith}
 use borrow.Author.Count.{below-more}
 use lib.ListN.{length, getD, set}
 use lib.Seq.{getD-set-same, getD-set-other}
+use Rattle.basics.proofs.Tests.{below-or}
 use Rattle.rules.specs.Problem.{mostRows, messages, repeat}
 use Rattle.rules.proofs.Bounds.{member, repeat-most}
 use Rattle.places.specs.Places.{tableAt, Few}
-use Rattle.places.proofs.Meets.{below-or}
 
 -- ---- one message: Q holds of each of its first r words in e and in a, and all other words are the same
 pub record Row (Q : ℕ → ℕ → ℕ → Type 0) (j r : ℕ) (e a : List ℕ) : Type 0 where

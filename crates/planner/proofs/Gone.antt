@@ -16,7 +16,7 @@ use Rattle.rules.specs.Tests.{ownFault, meetingFault, fault, Stand}
 use Rattle.rules.proofs.Faults.{clear-both}
 use Rattle.rules.proofs.Meaning.{meets-is, is-meets, clear-unmet, unmet-clear}
 use Rattle.rules.proofs.Prefix.{same-fault}
-use Rattle.places.proofs.Meets.{own-placed, fault-own, clash-meets, meets-clash}
+use Rattle.places.proofs.Meets.{fault-own, stands, clash-meets, meets-clash}
 use Rattle.planner.specs.Order.{Agree, Before}
 use Rattle.planner.specs.Search.{put, LeftIn, Best, Nowhere}
 use Rattle.planner.proofs.Order.{places, agree-refl, agree-sym, agree-trans, agree-less, put-keeps, put-column, put-row, put-agree}
@@ -84,7 +84,7 @@ module _ (p : List ℕ) (k : ℕ) (v : List ℕ) where
   gone-column c r h end G = record {
     none = λ w S g b. ⊎-elim
         (λ l. ⊎-elim
-        (λ e. let low = own-placed p k _ _ (fault-own p w k (S .each k h)) .row-below in G .none w S g (inr (e, omega arith)))
+        (λ e. let low = stands S k h .row-below in G .none w S g (inr (e, omega arith)))
         (λ m. G .none w S g (inl m))
         (eq-or-lt-of-le {n = column w k} {m = c} (omega arith)))
         (λ q. let l = q .1 in omega arith)
@@ -93,7 +93,7 @@ module _ (p : List ℕ) (k : ℕ) (v : List ℕ) where
 
   pub gone-all : (c : ℕ) → k < messages p → columns p ≤ c → Gone p k v c 0 → Nowhere p k v
   gone-all c h end G = record {
-    none = λ w S g. let low = own-placed p k _ _ (fault-own p w k (S .each k h)) .column-below in G .none w S g (inl (omega arith));
+    none = λ w S g. let low = stands S k h .column-below in G .none w S g (inl (omega arith));
   }
 
   -- the least behind the first place that is not gone is the least of all

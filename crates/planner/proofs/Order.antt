@@ -8,8 +8,8 @@ use native.Mathlib.Omega.{arith}
 use borrow.Author.Count.{below-more}
 use lib.ListN.{length, getD, set, length-set}
 use lib.Seq.{getD-set-same, getD-set-other, ext-getD}
+use Rattle.basics.proofs.Tests.{below-or}
 use Rattle.rules.specs.Problem.{Gives, column, row}
-use Rattle.places.proofs.Meets.{below-or}
 use Rattle.planner.specs.Order.{Agree, Before, Smaller, NotAfter}
 use Rattle.planner.specs.Search.{put}
 

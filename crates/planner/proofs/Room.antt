@@ -7,11 +7,11 @@ use mathlib.Core.Logic.{⊎-elim}
 use native.Mathlib.Nat.{eq-or-lt-of-le}
 use native.Mathlib.Omega.{arith}
 use Rattle.basics.specs.Bits.{Joined}
+use Rattle.basics.proofs.Bits.{has-none}
 use Rattle.rules.specs.Problem.{messages, Gives, column, row}
 use Rattle.places.specs.Places.{Few, Allows, Clash, Spared, Beside}
 use Rattle.lookahead.specs.Probe.{Cautious}
-use Rattle.places.proofs.Meets.{own-placed, fault-own, clash-meets, not-met}
-use Rattle.places.proofs.Covering.{has-none}
+use Rattle.places.proofs.Meets.{own-placed, fault-own, stands, low-column, clash-meets, not-met}
 use Rattle.planner.specs.Search.{put, LeftIn, Leaves, From, Nowhere}
 use Rattle.planner.proofs.Order.{put-keeps, put-column, put-row}
 
@@ -49,9 +49,7 @@ module _ (p v : List ℕ) (k c r : ℕ) (room : Gives v k) where
   left-in : {j s x z : ℕ} → Few p → j < messages p → LeftIn p k v j s x → Spared p k c r j s x z → LeftIn p (k + 1) (put v k c r) j s z
   left-in {j} {s} F lj L S = record {
     holds = λ d o n.
-        let wide = own-placed p j d s o .column-below in
-        let most = F .formed .header .columns-most in
-        S .keeps d (omega arith) (L .holds d o (λ i h K. n i (omega arith) (kept i h K)))
+        S .keeps d (low-column F (own-placed p j d s o)) (L .holds d o (λ i h K. n i (omega arith) (kept i h K)))
         (λ K. n k (omega arith) (rw (put-column v k c r room, put-row v k c r room) K));
     own = λ d h. L .own d (S .only d h);
     unmet = λ d h i g K. ⊎-elim
@@ -72,10 +70,8 @@ pub no-room : {p v t : List ℕ} {k l : ℕ} {b : Bool} → k ≤ messages p →
 no-room {p} {v} {t} {k} {l} lk T L A e = record {
   none = λ w S g. A .refuses e .none w S (record {
     has = λ j lj hj.
-        let own = fault-own p w j (S .each j lj) in
         let late = L .late j hj in
-        let low = own-placed p j _ _ own .row-below in
-        T .each j (row w j) late lj low .holds (column w j) own λ i h K.
+        T .each j (row w j) late lj (stands S j lj .row-below) .holds (column w j) (fault-own p w j (S .each j lj)) λ i h K.
         not-met S i j (omega arith) lj (λ q. omega arith) (clash-meets (sym (g .columns-same i h)) (sym (g .rows-same i h)) refl refl K);
   });
 }

@@ -8,10 +8,10 @@ use native.Mathlib.Omega.{arith}
 use borrow.Author.Count.{below-more}
 use lib.ListN.{getD}
 use Rattle.basics.specs.Bits.{Has, Cleared}
+use Rattle.basics.proofs.Bits.{has-none}
 use Rattle.rules.specs.Problem.{mostColumns}
 use Rattle.places.specs.Places.{tableAt}
 use Rattle.prices.specs.Prices.{dearest, sumAt, Cheap}
-use Rattle.places.proofs.Covering.{has-none}
 
 -- t is at most the sum of each place of message j with one of the first n base rows
 pub record Low (a x : List ℕ) (j s n t : ℕ) : Type 0 where

@@ -16,10 +16,9 @@ use Rattle.basics.specs.Sums.{only}
 use Rattle.basics.proofs.Sums.{sum-rises, sum-add, sum-single}
 use Rattle.rules.specs.Problem.{mostColumns, rows}
 use Rattle.rules.proofs.Bounds.{member, repeat-is}
-use Rattle.rules.proofs.Digits.{Multiple}
+use Rattle.rules.proofs.Digits.{Multiple, base-row}
 use Rattle.places.specs.Places.{Few}
 use Rattle.prices.specs.Prices.{price, cost, sumAt, Halved, Sums}
-use Rattle.places.proofs.Meets.{base}
 
 -- ---- the prices
 -- the first k words of x from n on are those of y
@@ -64,10 +63,10 @@ module _ (y : List ℕ) (m : ℕ) where
   two-rows s r i q l =
       let twice : Multiple s (2 * s) = record { times = 2; is = refl } in
       elim (ℕ-discrete (i % (2 * s)) r) [
-        | yes e ↦ let b = base s (2 * s) i r twice e in
+        | yes e ↦ let b = base-row s (2 * s) i r twice e in
             rw (eq-eqb (i % (2 * s)) r e, ne-eqb (i % (2 * s)) (s + r) (λ d. omega arith), eq-eqb (i % s) r (sym b ∙ mod-eq-of-lt l)) (omega arith)
         | no e ↦ elim (ℕ-discrete (i % (2 * s)) (s + r)) [
-          | yes d ↦ let b = base s (2 * s) i (s + r) twice d in
+          | yes d ↦ let b = base-row s (2 * s) i (s + r) twice d in
               rw (ne-eqb (i % (2 * s)) r e, eq-eqb (i % (2 * s)) (s + r) d, eq-eqb (i % s) r (sym b ∙ add-mod-left s r ∙ mod-eq-of-lt l)) (omega arith)
           | no d ↦ rw (ne-eqb (i % (2 * s)) r e, ne-eqb (i % (2 * s)) (s + r) d) (omega arith)
         ]

@@ -12,12 +12,12 @@ use Rattle.basics.specs.Bits.{bit, Has, Cleared}
 use Rattle.basics.specs.Sums.{sum, only}
 use Rattle.basics.proofs.Sums.{sum-rises, sum-swap, own-terms, exchange}
 use Rattle.basics.proofs.Tests.{and-true, not-both}
-use Rattle.rules.specs.Problem.{mostColumns, rows, messages, repeat, column, row, Placed}
+use Rattle.rules.specs.Problem.{mostColumns, rows, messages, repeat, column, row}
 use Rattle.rules.specs.Tests.{Stand}
 use Rattle.rules.proofs.Bounds.{member, repeat-least}
 use Rattle.places.specs.Places.{tableAt, Few, Within, Shut, Narrowed}
 use Rattle.prices.specs.Prices.{price, cost, among, worthIn, worth, Joint, sumAt, Sums, Owed, PaidIn, Paid}
-use Rattle.places.proofs.Meets.{own-placed, fault-own, not-shared}
+use Rattle.places.proofs.Meets.{stands, low-column, not-shared}
 use Rattle.places.proofs.Tables.{Made, made-skip}
 
 -- ---- what messages without a fault pay
@@ -26,42 +26,39 @@ abbrev paid : List ℕ → List ℕ → List ℕ → ℕ → ℕ
 paid p y w j = cost y (rows p) (repeat p j) (column w j) (row w j)
 
 module _ {p u a : List ℕ} {l : ℕ} (y : List ℕ) (F : Few p) (J : Joint p a l (rows p) u) (w : List ℕ) (S : Stand p (messages p) w) (W : Within p a l w) where
-  placed : (j : ℕ) → j < messages p → Placed p j (column w j) (row w j)
-  placed j h = own-placed p j _ _ (fault-own p w j (S .each j h))
-
   low : (j : ℕ) → j < messages p → column w j < mostColumns
-  low j h = let k = placed j h .column-below in let m = F .formed .header .columns-most in omega arith
+  low j h = low-column F (stands S j h)
 
-  -- message j, of l, stands in row i
-  abbrev stands : ℕ → ℕ → Bool
-  stands i j = eqb (bit l j) 1 && eqb (i % repeat p j) (row w j)
+  -- message j, of l, is sent in row i
+  abbrev sent : ℕ → ℕ → Bool
+  sent i j = eqb (bit l j) 1 && eqb (i % repeat p j) (row w j)
 
-  in-row : (i j : ℕ) → stands i j ≡ true → i % repeat p j ≡ row w j
+  in-row : (i j : ℕ) → sent i j ≡ true → i % repeat p j ≡ row w j
   in-row i j h = eqb-true _ _ (and-true (eqb (bit l j) 1) _ h .1)
 
   -- so that its cell there is one of those that count
-  counts : (i j : ℕ) → i < rows p → j < messages p → stands i j ≡ true → Has (getD u i 0) (column w j)
+  counts : (i j : ℕ) → i < rows p → j < messages p → sent i j ≡ true → Has (getD u i 0) (column w j)
   counts i j li lj h =
       let m = eqb-true _ _ (and-true (eqb (bit l j) 1) _ h .0) in
       J .each i li .has j (column w j) lj m (subst (λ (r : ℕ). Has (getD a (tableAt j r) 0) (column w j)) (sym (in-row i j h)) (W .has j lj m))
 
-  of-row : (i : ℕ) → i < rows p → sum (messages p) (λ j. only (stands i j) (price y i (column w j))) ≤ worthIn y i (getD u i 0)
+  of-row : (i : ℕ) → i < rows p → sum (messages p) (λ j. only (sent i j) (price y i (column w j))) ≤ worthIn y i (getD u i 0)
   unfolding worthIn
   of-row i li =
       le-trans
       (sum-rises (messages p) _ _ same)
-      (own-terms (messages p) mostColumns (λ c. among (getD u i 0) c (price y i c)) (stands i) (column w)
+      (own-terms (messages p) mostColumns (λ c. among (getD u i 0) c (price y i c)) (sent i) (column w)
       (λ j lj h. low j lj)
       (λ j k lj lk h g ne e. not-shared F S i j k lj lk ne e (in-row i j h) (in-row i k g)))
     where
-      same : (j : ℕ) → j < messages p → only (stands i j) (price y i (column w j)) ≤ only (stands i j) (among (getD u i 0) (column w j) (price y i (column w j)))
-      same j lj = by (stands i j) refl
+      same : (j : ℕ) → j < messages p → only (sent i j) (price y i (column w j)) ≤ only (sent i j) (among (getD u i 0) (column w j) (price y i (column w j)))
+      same j lj = by (sent i j) refl
         where
-          by : (b : Bool) → stands i j ≡ b → only b (price y i (column w j)) ≤ only b (among (getD u i 0) (column w j) (price y i (column w j)))
+          by : (b : Bool) → sent i j ≡ b → only b (price y i (column w j)) ≤ only b (among (getD u i 0) (column w j) (price y i (column w j)))
           by true e = rw (eq-eqb _ _ (counts i j li lj e)) (omega arith)
           by false e = omega arith
 
-  of-message : (j : ℕ) → among l j (paid p y w j) ≤ sum (rows p) (λ i. only (stands i j) (price y i (column w j)))
+  of-message : (j : ℕ) → among l j (paid p y w j) ≤ sum (rows p) (λ i. only (sent i j) (price y i (column w j)))
   unfolding cost
   of-message j = by (eqb (bit l j) 1)
     where
@@ -74,7 +71,7 @@ module _ {p u a : List ℕ} {l : ℕ} (y : List ℕ) (F : Few p) (J : Joint p a 
   unfolding worth
   paid-most =
       le-trans (sum-rises (messages p) _ _ (λ j h. of-message j))
-      (subst (λ (x : ℕ). x ≤ worth y (rows p) u) (sum-swap (rows p) (messages p) (λ i j. only (stands i j) (price y i (column w j)))) (sum-rises (rows p) _ _ of-row))
+      (subst (λ (x : ℕ). x ≤ worth y (rows p) u) (sum-swap (rows p) (messages p) (λ i j. only (sent i j) (price y i (column w j)))) (sum-rises (rows p) _ _ of-row))
 
   -- and each at least its number of v
   at-least : {x v : List ℕ} {t : ℕ} → Sums p y x → Owed p a x l (messages p) v t → (j : ℕ) → j < messages p → among l j (getD v j 0) ≤ among l j (paid p y w j)
@@ -83,7 +80,7 @@ module _ {p u a : List ℕ} {l : ℕ} (y : List ℕ) (F : Few p) (J : Joint p a 
       by : (b : Bool) → eqb (bit l j) 1 ≡ b → only b (getD v j 0) ≤ only b (paid p y w j)
       by true e =
           let m = eqb-true _ _ e in
-          let r = placed j lj .row-below in
+          let r = stands S j lj .row-below in
           let f = O .each j lj m .least (row w j) (column w j) r (low j lj) (W .has j lj m) in
           let s = X .each j (row w j) (column w j) lj r (low j lj) in
           omega arith
@@ -97,7 +94,7 @@ module _ {p u a : List ℕ} {l : ℕ} (y : List ℕ) (F : Few p) (J : Joint p a 
       let e = exchange (messages p) k (λ j. among l j (getD v j 0)) (λ j. among l j (paid p y w j)) (at-least X O) lk in
       let b : among l k (paid p y w k) ≡ paid p y w k = rw (eq-eqb (bit l k) 1 h) in
       let d : among l k (getD v k 0) ≡ getD v k 0 = rw (eq-eqb (bit l k) 1 h) in
-      let s = X .each k (row w k) (column w k) lk (placed k lk .row-below) (low k lk) in
+      let s = X .each k (row w k) (column w k) lk (stands S k lk .row-below) (low k lk) in
       let q = O .total in
       omega arith
 
@@ -118,11 +115,9 @@ pub narrowed : {p y u a b x v : List ℕ} {l t m : ℕ} → Few p → Sums p y x
 narrowed {y = y} F X J h O K = record {
   keeps = λ w S W. record {
     has = λ j lj g.
-        let at = own-placed _ j _ _ (fault-own _ w j (S .each j lj)) in
-        let c = at .column-below in
-        let n = F .formed .header .columns-most in
+        let at = stands S j lj in
         let d = place-most y F J w S W X O j lj g in
-        K .each j (row w j) lj g (at .row-below) .keeps (column w j) (omega arith) (W .has j lj g) (omega arith);
+        K .each j (row w j) lj g (at .row-below) .keeps (column w j) (low-column F at) (W .has j lj g) (omega arith);
   };
 }
 

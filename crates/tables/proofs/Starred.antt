@@ -12,8 +12,6 @@ use Rattle.basics.specs.Bits.{bit}
 use Rattle.basics.specs.Sums.{sum, largest}
 use Rattle.basics.specs.Tests.{some as someOf}
 use Rattle.basics.proofs.Tests.{left, right}
-use Rattle.rules.specs.declared.Fault.{Fault}
-use Rattle.rules.specs.declared.Fault.the-variants.{Clear, Bad}
 use Rattle.rules.specs.Problem.{earliest, triggers, frame, proposalWords, WellFormed}
 use Rattle.rules.specs.Sends.{sendAt}
 use Rattle.rules.specs.Refusal.{isClear, firstFault}
@@ -22,6 +20,7 @@ use Rattle.rules.specs.Paper.{at, paperOf}
 use Rattle.rules.specs.Rules.{headerFault, columnWrong, repeated, identityWrong, onGrid, timingWrong, overloaded, wordsFault, problemFault}
 use Rattle.rules.specs.Tests.{inRange, fits, wait, timely, common, meets, ownFault, meetingFault, fault, proposalFault}
 use Rattle.rules.proofs.Exact.{exact}
+use Rattle.rules.proofs.Faults.{clear-is}
 use Rattle.rules.proofs.Formed.{problem-kept}
 use Rattle.planner.proofs.Seek.{run, run-least, run-none}
 use Rattle.losses.specs.Losses.{reference, used, startsAt, occupied, inWindow, empty, inColumn, covered, uncovered, gaps}
@@ -45,10 +44,6 @@ same-is [] [] t = refl
 same-is [] (y ∷ m) t = absurd t
 same-is (x ∷ l) [] t = absurd t
 same-is (x ∷ l) (y ∷ m) t = ap₂ _∷_ (eqb→eq x y (left (eqb x y) (same l m) t)) (same-is l m (right (eqb x y) (same l m) t))
-
-clear-is : (f : Fault) → T (isClear f) → f ≡ Clear
-clear-is Clear t = refl
-clear-is (Bad q) t = absurd t
 
 -- no rule of a problem is broken
 abbrev wellFormed : List ℕ → Bool
