@@ -2,13 +2,13 @@
 use Prim.Native.Nat.{ℕ, zero, suc, _+_, _*_, _-_, _<_, _≤_}
 use mathlib.Core.Path.{_≡_, refl, sym, ap, _∙_, subst}
 use mathlib.Core.Logic.{⊎-elim}
-use mathlib.Core.List.{List, [], _∷_, _++_, append-nil, append-assoc}
+use mathlib.Core.List.{List, [], _∷_, _++_, append-nil, append-assoc, List·Memᴰ, List·Memᴰ·not-nil, List·Memᴰ·append-cases, Memᴰ·append-left, Memᴰ·append-right}
 use borrow.Rule.Slice.PartMut.{putMid, midOf, same-len-mid}
-use native.Mathlib.Nat.{add-sub-cancel-left, mul-le-mul-left, mul-zero, mul-suc, eq-or-lt-of-le, le-of-suc-le-suc}
+use native.Mathlib.Nat.{add-zero, add-suc, add-sub-cancel-left, mul-le-mul-left, mul-zero, mul-suc, eq-or-lt-of-le, le-of-suc-le-suc}
 use native.Mathlib.Numerals.{add-one}
 use native.Mathlib.Omega.{arith}
-use lib.ListN.{length, getD, set, take, drop, drop-of-length-le, length-append, length-drop}
-use lib.Seq.{sets, sets-eq, take-at, drop-at, drop-drop, length-take-le, drop-cons, set-at, take-suc, take-all, take-add, getD-take, getD-drop}
+use lib.ListN.{length, getD, set, take, drop, drop-of-length-le, length-append, length-drop, List·getD-append}
+use lib.Seq.{drop-append-seam, sets, sets-eq, take-at, drop-at, drop-drop, length-take-le, drop-cons, set-at, take-suc, take-all, take-add, getD-take, getD-drop}
 use Rattle.basics.specs.Runs.{run, piece, Turned}
 
 -- ---- runs
@@ -41,6 +41,29 @@ module _ (g : ℕ → List ℕ) where
         let rest = drop-at (run j g) (drop (k * j) d) (k * j) l in
         rw (p, q, add-sub-cancel-left (k * j) k, kept, rest, drop-drop k (k * j) d, run-next, append-assoc, add-one, mul-suc)
 
+-- parted behind the first m
+pub run-split : {A : Type 0} (g : ℕ → List A) (m k : ℕ) → run (m + k) g ≡ run m g ++ run k (λ i. g (m + i))
+unfolding run
+run-split g m zero = rw (add-zero, append-nil)
+run-split g m (suc k) = rw (add-suc, run-split g m k, append-assoc)
+
+-- piece i of n begins where the pieces before it end
+module _ (g : ℕ → List ℕ) (n i : ℕ) (l : i < n) where
+  run-around : run n g ≡ run i g ++ g i ++ run (n - suc i) (λ k. g (suc i + k))
+  unfolding run
+  run-around = let e : n ≡ suc i + (n - suc i) = omega arith in ap (λ (k : ℕ). run k g) e ∙ run-split g (suc i) (n - suc i)
+
+  pub run-inside : length (run i g) + length (g i) ≤ length (run n g)
+  run-inside = rw (run-around, length-append, length-append) (omega arith)
+
+  pub run-at : (k : ℕ) → k < length (g i) → getD (run n g) (length (run i g) + k) 0 ≡ getD (g i) k 0
+  run-at k h =
+      let rest = run (n - suc i) (λ k. g (suc i + k)) in
+      ap (λ (t : List ℕ). getD t (length (run i g) + k) 0) run-around
+      ∙ List·getD-append (run i g ++ g i) rest 0 (length (run i g) + k) (rw length-append (omega arith))
+      ∙ sym (getD-drop (length (run i g)) (run i g ++ g i) k 0)
+      ∙ ap (λ (t : List ℕ). getD t k 0) (drop-append-seam (run i g) (g i))
+
 pub run-same : (g h : ℕ → List ℕ) (n : ℕ) → ((i : ℕ) → i < n → g i ≡ h i) → run n g ≡ run n h
 unfolding run
 run-same g h zero e = refl
@@ -50,6 +73,31 @@ pub run-pieces : (k n : ℕ) (l : List ℕ) → run n (λ i. piece k i l) ≡ ta
 unfolding run
 run-pieces k zero l = rw mul-zero
 run-pieces k (suc n) l = rw (run-pieces k n l, mul-suc, take-add)
+
+-- what stands in a run stands in one of its lists
+pub record OfRun {A : Type 0} (x : A) (n : ℕ) (g : ℕ → List A) : Type 0 where
+  pub at : ℕ
+  pub below : at < n
+  pub member : List·Memᴰ x (g at)
+
+module _ {A : Type 0} (g : ℕ → List A) where
+  pub in-run : (n i : ℕ) {x : A} → i < n → List·Memᴰ x (g i) → List·Memᴰ x (run n g)
+  unfolding run
+  in-run zero i l m = absurd (omega arith)
+  in-run (suc n) i {x} l m =
+      ⊎-elim
+      (λ e. Memᴰ·append-right (run n g) (subst (λ (k : ℕ). List·Memᴰ x (g k)) e m))
+      (λ k. Memᴰ·append-left (g n) (in-run n i k m))
+      (eq-or-lt-of-le (le-of-suc-le-suc l))
+
+  pub of-run : (n : ℕ) (x : A) → List·Memᴰ x (run n g) → OfRun x n g
+  unfolding run
+  of-run zero x m = absurd (List·Memᴰ·not-nil m)
+  of-run (suc n) x m =
+      ⊎-elim
+      (λ k. let h = of-run n x k in record { at = h .at; below = omega (arith, h .below); member = h .member })
+      (λ k. record { at = n; below = omega arith; member = k })
+      (List·Memᴰ·append-cases (run n g) m)
 
 -- ---- pieces
 module _ (k i n : ℕ) (l : List ℕ) where

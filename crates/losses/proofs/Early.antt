@@ -9,10 +9,10 @@ use borrow.Author.Tests.{le-ltb}
 use Rattle.basics.specs.Sums.{sum, only}
 use Rattle.basics.proofs.Sums.{sum-beyond, sum-same}
 use Rattle.rules.specs.Parts.{Member}
-use Rattle.rules.specs.Problem.{rows, cycle, messages, period, lasts, repeat, WellFormed}
+use Rattle.rules.specs.Problem.{rows, cycle, matrix, messages, period, lasts, repeat, WellFormed}
 use Rattle.rules.specs.Sends.{sendAt}
 use Rattle.rules.proofs.Bounds.{member, period-is, repeat-least}
-use Rattle.losses.specs.Losses.{matrix, used}
+use Rattle.losses.specs.Losses.{used}
 
 module _ {p : List ℕ} (wf : WellFormed p) (w : List ℕ) where
   -- the theorem, of any proposal: periods are no shorter than the cycle, so that send R starts behind R cycles or later

@@ -3,6 +3,5 @@ pub mod Early
 pub mod Cells
 pub mod Gaps
 pub mod Sum
-pub mod Marks
 pub mod Tallies
 pub mod Promise

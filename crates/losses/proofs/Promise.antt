@@ -13,7 +13,7 @@ use Rattle.losses.specs.declared.answer.BusTime.{BusTime}
 use Rattle.losses.specs.declared.answer.Lost.{Lost}
 use Rattle.losses.specs.declared.answer.Lost.the-variants.{Figures, Refused}
 use Rattle.losses.specs.Answer.{paper, figures}
-use Rattle.losses.specs.Losses.{matrix}
+use Rattle.rules.specs.Problem.{matrix}
 use Rattle.losses.specs.Parts.{FiguresAre}
 use Rattle.losses.specs.Promise.{Losing}
 use Rattle.losses.proofs.Sum.{losses-sum}

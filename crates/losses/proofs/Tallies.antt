@@ -10,8 +10,10 @@ use Rattle.basics.specs.Sums.{sum}
 use Rattle.basics.proofs.Sums.{sum-next, sum-most, only-most}
 use Rattle.rules.specs.Problem.{rows, columns, messages, width, WellFormed}
 use Rattle.proposal.specs.Accepted.{Accepted}
+use Rattle.cells.specs.Table.{numberIn, Table}
+use Rattle.cells.proofs.Owners.{number-most, holder}
 use Rattle.losses.specs.declared.Tally.{Tally}
-use Rattle.losses.specs.Parts.{heldIn, Table, Fits, Part, used-part, window-part, empty-part, part, share, rowShare, Added, RowAdded, Tallied}
+use Rattle.losses.specs.Parts.{heldBy, Fits, Part, used-part, window-part, empty-part, part, share, rowShare, Added, RowAdded, Tallied}
 use Rattle.losses.specs.Parts.{longest, rowMost, cellsMost, Small}
 use Rattle.losses.proofs.Terms.{over-same}
 use Rattle.losses.proofs.Cells.{cell-is}
@@ -54,10 +56,10 @@ module _ {p t : List ℕ} {i : ℕ} where
   unfolding sum
   row-none = record { each = λ k. omega arith }
 
-  pub row-more : {n x wide : ℕ} {s r q : Tally} → RowAdded p t i n s r → x ≡ heldIn t i n → wide ≡ width p n → Added r x wide q → RowAdded p t i (n + 1) s q
+  pub row-more : {n x wide : ℕ} {s r q : Tally} → RowAdded p t i n s r → x ≡ heldBy p (numberIn t i n) → wide ≡ width p n → Added r x wide q → RowAdded p t i (n + 1) s q
   row-more {n} h ex ew a =
       let cell = rw (ex, ew) at a in
-      record { each = λ k. omega (arith, h .each k, cell .each k, sum-next n (λ c. share k (heldIn t i c) (width p c))) }
+      record { each = λ k. omega (arith, h .each k, cell .each k, sum-next n (λ c. share k (heldBy p (numberIn t i c)) (width p c))) }
 
   -- all columns are seen
   pub row-all : {n m : ℕ} {s r : Tally} → RowAdded p t i n s r → m ≡ columns p → n ≤ m → m ≤ n → RowAdded p t i (columns p) s r
@@ -67,8 +69,8 @@ module _ {p t : List ℕ} {i : ℕ} where
 module _ {p t : List ℕ} (wf : WellFormed p) (f : Fits p t) where
   row-most : (i : ℕ) → i < rows p → (n : ℕ) → n ≤ columns p → (k : Part) → rowShare k p t i n ≤ n * longest
   row-most i li n ln k =
-      sum-most n longest (λ c. share k (heldIn t i c) (width p c))
-      (λ c l. omega (arith, share-most k (heldIn t i c) (width p c) (f .each i c li (omega arith)), wf .column c (omega arith) .width-most))
+      sum-most n longest (λ c. share k (heldBy p (numberIn t i c)) (width p c))
+      (λ c l. omega (arith, share-most k (heldBy p (numberIn t i c)) (width p c) (f .each i c li (omega arith)), wf .column c (omega arith) .width-most))
 
   pub row-small : {i n : ℕ} {s r : Tally} → i < rows p → n < columns p → Small (i * rowMost) s → RowAdded p t i n s r → Small cellsMost r
   row-small {i} {n} li ln s h =
@@ -108,7 +110,10 @@ module _ {p t : List ℕ} where
 -- ---- the table of an accepted proposal fits, and its tally has the three figures of the cells
 module _ {p w t : List ℕ} (a : Accepted p w) (b : Table p w (messages p) t) where
   pub table-fits : Fits p t
-  table-fits = record { each = λ i c li lc. rw (b .each i c li lc) (cell-is a i c lc .held-most) }
+  table-fits = record {
+    number-most = λ i c li lc. number-most (holder a b i c li lc);
+    each = λ i c li lc. rw (b .each i c li lc) (cell-is a i c li lc .held-most);
+  }
 
   pub tally-is : {r : Tally} → Tallied p t (rows p) r → (k : Part) → part k r ≡ figure k p w
-  tally-is h k = h .each k ∙ over-same p _ _ (λ i c li lc. ap (λ (x : ℕ). share k x (width p c)) (b .each i c li lc)) ∙ sym (figure-cells a k)
+  tally-is h k = h .each k ∙ over-same p _ _ (λ i c li lc. ap (λ (x : ℕ). share k (heldBy p x) (width p c)) (b .each i c li lc)) ∙ sym (figure-cells a k)

@@ -2,15 +2,12 @@
 use Prim.Native.Nat.{ℕ, _+_, _*_, _-_}
 use mathlib.Core.Bool.{Bool, _&&_, _||_, not}
 use mathlib.Core.List.{List}
-use lib.Dec.{leb, ltb, eqb}
+use lib.Dec.{leb, ltb}
 use Rattle.basics.specs.Sums.{sum, only}
 use Rattle.basics.specs.Tests.{some}
-use Rattle.rules.specs.Problem.{rows, cycle, refLen, columns, messages, start, width, lasts}
+use Rattle.rules.specs.Problem.{rows, cycle, matrix, refLen, columns, messages, start, width, lasts}
 use Rattle.rules.specs.Sends.{sendAt}
-
--- how long a matrix cycle is
-abbrev pub matrix : List ℕ → ℕ
-matrix p = rows p * cycle p
+use Rattle.cells.specs.Cells.{startsAt, occupied}
 
 -- ---- reference: R · f
 abbrev pub reference : List ℕ → ℕ
@@ -20,13 +17,7 @@ reference p = rows p * refLen p
 unfoldable pub used : List ℕ → List ℕ → ℕ
 used p w = sum (messages p) (λ j. sum (rows p) (λ n. only (ltb (sendAt p w j n) (matrix p)) (lasts p j)))
 
--- ---- the cells: a send of message j starts at the cell of row i and column c; a cell is occupied if some send starts there
-unfoldable pub startsAt : List ℕ → List ℕ → ℕ → ℕ → ℕ → Bool
-startsAt p w j i c = some (rows p) (λ n. eqb (sendAt p w j n) (i * cycle p + start p c))
-
-unfoldable pub occupied : List ℕ → List ℕ → ℕ → ℕ → Bool
-occupied p w i c = some (messages p) (λ j. startsAt p w j i c)
-
+-- ---- a figure of every cell, summed
 abbrev pub overCells : List ℕ → (ℕ → ℕ → ℕ) → ℕ
 overCells p f = sum (rows p) (λ i. sum (columns p) (f i))
 

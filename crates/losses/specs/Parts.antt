@@ -1,45 +1,25 @@
 -- What the parts of the call ask and hand back.
-use Prim.Native.Nat.{ℕ, _+_, _*_, _-_, _<_, _≤_}
+use Prim.Native.Nat.{ℕ, zero, suc, _+_, _*_, _-_, _<_, _≤_}
 use mathlib.Core.Path.{_≡_}
 use mathlib.Core.Bool.{not}
 use mathlib.Core.List.{List}
 use lib.Dec.{eqb}
-use lib.ListN.{length, getD}
 use Rattle.basics.specs.Sums.{sum, only}
-use Rattle.rules.specs.Problem.{mostRows, mostColumns, rows, columns, width, lasts}
+use Rattle.rules.specs.Problem.{mostRows, mostColumns, rows, columns, messages, width, lasts}
+use Rattle.cells.specs.Table.{numberIn}
 use Rattle.losses.specs.declared.answer.BusTime.{BusTime}
 use Rattle.losses.specs.declared.Tally.{Tally}
-use Rattle.losses.specs.Losses.{startsAt, reference, used, inWindow, empty, gaps}
+use Rattle.losses.specs.Losses.{reference, used, inWindow, empty, gaps}
 
--- ---- the table: at most 64 rows of 32 columns, so 2,048 cells, row by row; it says how long each cell is held
-abbrev pub cells : ℕ
-cells = mostRows * mostColumns
+-- ---- how long a cell is held, by its number in the table: by no message, or by message j, whose number is j + 1
+abbrev pub heldBy : List ℕ → ℕ → ℕ
+heldBy p zero = 0
+heldBy p (suc j) = lasts p j
 
--- where row i and column c stand in it, and what it says there
-abbrev pub cell : ℕ → ℕ → ℕ
-cell i c = mostColumns * i + c
-
-abbrev pub heldIn : List ℕ → ℕ → ℕ → ℕ
-heldIn t i c = getD t (cell i c) 0
-
--- how long the cell of row i and column c is held by the first n messages
-unfoldable pub held : List ℕ → List ℕ → ℕ → ℕ → ℕ → ℕ
-held p w n i c = sum n (λ j. only (startsAt p w j i c) (lasts p j))
-
--- the table t says so, for every cell
-pub record Table (p w : List ℕ) (n : ℕ) (t : List ℕ) : Type 0 where
-  pub long : length t ≡ cells
-  pub each : (i c : ℕ) → i < rows p → c < columns p → heldIn t i c ≡ held p w n i c
-
--- t with x in column c of each row r + n · step below `rows`, and nowhere else
-pub record Marked (t : List ℕ) (c r step rows x : ℕ) (t′ : List ℕ) : Type 0 where
-  pub long : length t′ ≡ length t
-  pub here : (n : ℕ) → r + n * step < rows → heldIn t′ (r + n * step) c ≡ x
-  pub elsewhere : (k : ℕ) → ((n : ℕ) → r + n * step < rows → ¬ (k ≡ cell (r + n * step) c)) → getD t′ k 0 ≡ getD t k 0
-
--- no cell is held for longer than it is wide
+-- every number in the table t is that of a message, and no cell is held for longer than it is wide
 pub record Fits (p t : List ℕ) : Type 0 where
-  pub each : (i c : ℕ) → i < rows p → c < columns p → heldIn t i c ≤ width p c
+  pub number-most : (i c : ℕ) → i < rows p → c < columns p → numberIn t i c ≤ messages p
+  pub each : (i c : ℕ) → i < rows p → c < columns p → heldBy p (numberIn t i c) ≤ width p c
 
 -- ---- the three figures of the cells: each cell is used, or loses the rest of its width, or is empty
 pub data Part : Type 0 where
@@ -60,7 +40,7 @@ share window-part x wide = only (not (eqb x 0)) (wide - x)
 share empty-part x wide = only (eqb x 0) wide
 
 abbrev pub rowShare : Part → List ℕ → List ℕ → ℕ → ℕ → ℕ
-rowShare k p t i n = sum n (λ c. share k (heldIn t i c) (width p c))
+rowShare k p t i n = sum n (λ c. share k (heldBy p (numberIn t i c)) (width p c))
 
 -- r is the tally s with one such cell added
 pub record Added (s : Tally) (x wide : ℕ) (r : Tally) : Type 0 where

@@ -142,7 +142,7 @@ fn strike(
     while j < count {
         if basics::has_bit(left, j as u32) {
             let step = steps[j];
-            let common = placing::smaller(steps[m], step);
+            let common = basics::smaller(steps[m], step);
             let mut i = r % common;
             while i < step {
                 let k = table_at(j, i);

@@ -9,12 +9,15 @@ use Rattle.rules.specs.declared.Fault.{Fault}
 use Rattle.rules.specs.declared.Fault.the-variants.{Clear, Bad}
 use Rattle.rules.specs.declared.Refusal.{Refusal}
 use Rattle.rules.specs.Tests.{proposalFault}
+use Rattle.rules.proofs.Faults.{clear-both}
 use Rattle.problem.specs.File.{wordsOf}
+use Rattle.problem.specs.Wrong.{fileFault}
+use Rattle.problem.proofs.Wrong.{file-formed}
 use Rattle.reader.specs.declared.answer.Read.{Read}
 use Rattle.reader.specs.declared.answer.Read.the-variants.{Problem, Refused}
 use Rattle.reader.specs.Answer.{refusal}
 use Rattle.reader.specs.Promise.{Opened, Decoded}
-use Rattle.proposal.specs.Accepted.{checkFault}
+use Rattle.proposal.specs.Accepted.{checkFault, Accepted}
 use Rattle.proposal.specs.Accept.{Admitted, Tested}
 
 tested-bad : {f w e : List ℕ} {r : Read} (q : Refusal) → r ≡ Refused q → checkFault f w ≡ Bad q → Tested f w e r
@@ -50,6 +53,10 @@ module _ (w : List ℕ) {f e : List ℕ} {r : Read} {n : ℕ} {y : Fault} (d : D
           accepted = record { formed = opened .formed; faultless = sym ey ∙ h };
         });
   }
+
+-- what has no fault is accepted
+pub clear-accepted : (f w : List ℕ) → checkFault f w ≡ Clear → Accepted (wordsOf f) w
+clear-accepted f w e = let parts = clear-both (fileFault f) (proposalFault (wordsOf f) w) e in record { formed = file-formed f (parts .0); faultless = parts .1 }
 
 -- ---- what the calls make of it
 pub refused-is : {f w e : List ℕ} {r : Read} {q t : Refusal} → Tested f w e r → r ≡ Refused q → t ≡ refusal r → checkFault f w ≡ Bad t

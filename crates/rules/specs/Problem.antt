@@ -86,6 +86,10 @@ frame s = 55 + 10 * s
 abbrev pub lasts : List ℕ → ℕ → ℕ
 lasts p j = frame (size p j)
 
+-- how long a matrix cycle is
+abbrev pub matrix : List ℕ → ℕ
+matrix p = rows p * cycle p
+
 -- every how many rows message j is sent
 abbrev pub repeat : List ℕ → ℕ → ℕ
 repeat p j = period p j / cycle p

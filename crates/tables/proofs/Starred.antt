@@ -1,5 +1,5 @@
 -- The starred cases, proved together: one computed test over the table, and one law that turns it into the statement at each case.
-use Prim.Native.Nat.{ℕ, _+_, _*_}
+use Prim.Native.Nat.{ℕ, _+_}
 use mathlib.Core.Path.{_≡_, refl, ap, ap₂}
 use mathlib.Core.Bool.{Bool, true, false, _&&_}
 use mathlib.Core.List.{List, [], _∷_, _++_, List·Memᴰ, List·Memᴰ·cases-cons, List·Memᴰ·not-nil}
@@ -23,7 +23,8 @@ use Rattle.rules.proofs.Exact.{exact}
 use Rattle.rules.proofs.Faults.{clear-is}
 use Rattle.rules.proofs.Formed.{problem-kept}
 use Rattle.planner.proofs.Seek.{run, run-least, run-none}
-use Rattle.losses.specs.Losses.{reference, used, startsAt, occupied, inWindow, empty, inColumn, covered, uncovered, gaps}
+use Rattle.cells.specs.Cells.{startsAt, occupied}
+use Rattle.losses.specs.Losses.{reference, used, inWindow, empty, inColumn, covered, uncovered, gaps}
 use Rattle.losses.proofs.Sum.{losses-sum}
 use Rattle.response.specs.Promise.{zeros}
 use Rattle.response.specs.Events.{count, repeated as repeatedEvent, eventWrong, eventsFault}

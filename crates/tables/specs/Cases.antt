@@ -3,11 +3,11 @@ use Prim.Native.Nat.{ℕ, _+_}
 use mathlib.Core.Path.{_≡_}
 use mathlib.Core.List.{List}
 use lib.ListN.{replicate}
-use Rattle.rules.specs.Problem.{frame, InRange, WellFormed}
+use Rattle.rules.specs.Problem.{matrix, frame, InRange, WellFormed}
 use Rattle.rules.specs.Sends.{Acceptable}
 use Rattle.rules.specs.Paper.{at, paperOf}
 use Rattle.rules.specs.Tests.{proposalFault}
-use Rattle.losses.specs.Losses.{matrix, reference, used, inWindow, empty, gaps}
+use Rattle.losses.specs.Losses.{reference, used, inWindow, empty, gaps}
 use Rattle.planner.specs.Least.{Plan, Least}
 use Rattle.response.specs.declared.Responded.the-variants.{Done}
 use Rattle.response.specs.Events.{count}

@@ -6,9 +6,11 @@ use native.Mathlib.Omega.{arith}
 use borrow.Author.Tests.{lt-ltb, le-ltb}
 use lib.ListN.{length, take, drop, length-append}
 use lib.Seq.{length-take-le}
+use Rattle.basics.specs.Runs.{Put}
 use Rattle.basics.specs.Sums.{sum}
 use Rattle.basics.proofs.Runs.{run-same, length-run}
 use Rattle.basics.proofs.Sums.{sum-same, sum-most, sum-times}
+use Rattle.basics.proofs.Written.{Begins, begins, length-pieces}
 use Rattle.rules.specs.declared.Refusal.the-variants.{Room}
 use Rattle.rules.specs.Problem.{mostTriggers, messages, nodes, triggers, WellFormed}
 use Rattle.rules.proofs.Told.{answers-done}
@@ -16,12 +18,12 @@ use Rattle.proposal.specs.Accepted.{Accepted}
 use Rattle.triggers.specs.declared.Listed.the-variants.{Lists as Done, Refused}
 use Rattle.triggers.specs.Lists.{entryWords, Lists, size, mostWords}
 use Rattle.triggers.specs.Order.{order, listFrom, listWords, countWord, countsOf, listsFrom, allWords}
-use Rattle.triggers.specs.Parts.{Ordered, Put}
+use Rattle.triggers.specs.Parts.{Ordered}
 use Rattle.triggers.specs.Promise.{ListingAccepted}
 use Rattle.triggers.proofs.Determined.{lists-one}
 use Rattle.triggers.proofs.NodeLists.{list-for, length-for}
 use Rattle.triggers.proofs.Results.{lists-refused}
-use Rattle.triggers.proofs.Written.{Begins, begins, length-pieces, length-entries}
+use Rattle.triggers.proofs.Written.{length-entries}
 
 -- no well-formed problem has lists of more words
 pub size-most : {p : List ℕ} → WellFormed p → size p ≤ mostWords

@@ -7,8 +7,8 @@ use lib.ListN.{length}
 use Rattle.basics.specs.Rising.{InOrder}
 use Rattle.basics.specs.Runs.{run}
 use Rattle.basics.specs.Sums.{sum}
-use Rattle.rules.specs.Problem.{mostTriggers, refId, messages, start, identifier, repeat, column, row, nodes, sends, receives, triggers}
-use Rattle.rules.specs.Sends.{Source, reference, message}
+use Rattle.rules.specs.Problem.{mostTriggers, messages, start, repeat, column, row, nodes, sends, receives, triggers}
+use Rattle.rules.specs.Sends.{Source, reference, message, identifierOf}
 
 -- ---- the sources that node n has an entry for: the reference message, each message that it sends and each that it receives
 abbrev pub concerns : List ℕ → ℕ → ℕ → Bool
@@ -26,10 +26,6 @@ entryWords = 4
 abbrev pub kind : List ℕ → ℕ → Source → ℕ
 kind p n reference = 0
 kind p n (message j) = cond (sends p n j) 1 2
-
-abbrev pub identifierOf : List ℕ → Source → ℕ
-identifierOf p reference = refId p
-identifierOf p (message j) = identifier p j
 
 -- the start of the column, without the row
 abbrev pub timeMark : List ℕ → List ℕ → Source → ℕ

@@ -34,11 +34,6 @@ pub record Arranged (p w o : List ℕ) : Type 0 where
 abbrev pub role : List ℕ → ℕ → ℕ → ℕ
 role p n j = cond (concerns p n j) (kind p n (message j)) 0
 
--- the words x stand at the front of the buffer d, which then is e; they are r
-pub record Put (x d e : List ℕ) (r : ℕ) : Type 0 where
-  pub count : r ≡ length x
-  pub is : e ≡ x ++ drop r d
-
 -- c has the triggers of nodes 0 to n - 1, t together, in front of what d has
 pub record Counts (p d c : List ℕ) (n t : ℕ) : Type 0 where
   pub counts : c ≡ run n (countWord p) ++ drop n d

@@ -11,12 +11,12 @@ use lib.ListN.{length, getD, set, replicate, length-set, length-replicate, getD-
 use lib.Seq.{getD-set-same, getD-set-other}
 use Rattle.basics.specs.Sums.{sum, only}
 use Rattle.basics.proofs.Sums.{sum-next}
-use Rattle.basics.proofs.Tests.{never, not-both}
-use Rattle.rules.specs.Problem.{mostColumns, rows, columns, messages, lasts, repeat, column, row, WellFormed}
+use Rattle.basics.proofs.Tests.{not-both}
+use Rattle.rules.specs.Problem.{mostColumns, rows, columns, messages, repeat, column, row, WellFormed}
 use Rattle.proposal.specs.Accepted.{Accepted}
-use Rattle.losses.specs.Losses.{startsAt}
-use Rattle.losses.specs.Parts.{cells, cell, heldIn, held, Table, Marked}
-use Rattle.losses.proofs.Cells.{at, starts-here, here-starts, one-holder, no-term}
+use Rattle.cells.specs.Cells.{startsAt, cells, cell}
+use Rattle.cells.specs.Table.{numberIn, starting, Table, Marked}
+use Rattle.cells.proofs.Starts.{at, starts-here, here-starts, none-here, one-holder, no-term}
 
 -- t′ is t with x in the cells of column c in rows r, r + step, .. below i
 pub record Marking (t : List ℕ) (c r step rows x i : ℕ) (t′ : List ℕ) : Type 0 where
@@ -24,7 +24,7 @@ pub record Marking (t : List ℕ) (c r step rows x i : ℕ) (t′ : List ℕ) : 
   pub turn : ℕ
   pub now-at : i ≡ r + turn * step
   pub before : (n : ℕ) → n < turn → r + n * step < rows
-  pub here : (n : ℕ) → n < turn → heldIn t′ (r + n * step) c ≡ x
+  pub here : (n : ℕ) → n < turn → numberIn t′ (r + n * step) c ≡ x
   pub elsewhere : (k : ℕ) → ((n : ℕ) → n < turn → ¬ (k ≡ cell (r + n * step) c)) → getD t′ k 0 ≡ getD t k 0
 
 pub marking-none : (t : List ℕ) (c r step rows x : ℕ) → Marking t c r step rows x r t
@@ -70,8 +70,8 @@ module _ {t t′ : List ℕ} {c r step rows x i : ℕ} (m : Marking t c r step r
 
 -- ---- message by message
 module _ {p w : List ℕ} (a : Accepted p w) where
-  pub table-more : {j : ℕ} {t t′ : List ℕ} → j < messages p → Table p w j t → Marked t (column w j) (row w j) (repeat p j) (rows p) (lasts p j) t′ → Table p w (j + 1) t′
-  unfolding held
+  pub table-more : {j : ℕ} {t t′ : List ℕ} → j < messages p → Table p w j t → Marked t (column w j) (row w j) (repeat p j) (rows p) (suc j) t′ → Table p w (j + 1) t′
+  unfolding starting
   table-more {j} {t} {t′} l b m = record { long = m .long ∙ b .long; each = λ i c li lc. go i c li lc (startsAt p w j i c) refl }
     where
       few : columns p ≤ mostColumns
@@ -79,28 +79,26 @@ module _ {p w : List ℕ} (a : Accepted p w) where
 
       none-before : (i c : ℕ) → c < columns p → startsAt p w j i c ≡ true → (k : ℕ) → k < j → startsAt p w k i c ≡ false
       none-before i c lc e k lk =
-          never (startsAt p w k i c) (λ q.
-          let same = one-holder a k j i c (omega arith) l (starts-here a k i c (omega arith) lc q) (starts-here a j i c l lc e) in
-          omega arith)
+          none-here a k i c (omega arith) lc (λ h. let same = one-holder a k j i c (omega arith) l h (starts-here a j i c l lc e) in omega arith)
 
-      go : (i c : ℕ) → i < rows p → c < columns p → (x : Bool) → startsAt p w j i c ≡ x → heldIn t′ i c ≡ sum (j + 1) (λ k. only (startsAt p w k i c) (lasts p k))
+      go : (i c : ℕ) → i < rows p → c < columns p → (x : Bool) → startsAt p w j i c ≡ x → numberIn t′ i c ≡ sum (j + 1) (λ k. only (startsAt p w k i c) (suc k))
       go i c li lc true e =
           let h = starts-here a j i c l lc e in
           let q : cell i c ≡ cell (row w j + h .turn * repeat p j) (column w j) = omega (arith, h .same-row, h .same-column) in
-          let free = no-term a i c j (λ k. lasts p k) lc (omega arith) (none-before i c lc e) in
-          rw (q, m .here (h .turn) (omega (arith, h .same-row)), sum-next j (λ k. only (startsAt p w k i c) (lasts p k)), free, e) (omega arith)
+          let free = no-term a i c j suc lc (omega arith) (none-before i c lc e) in
+          rw (q, m .here (h .turn) (omega (arith, h .same-row)), sum-next j (λ k. only (startsAt p w k i c) (suc k)), free, e) (omega arith)
       go i c li lc false e =
           let other = m .elsewhere (cell i c) (λ n ln q. not-both (here-starts a j i c l li record { same-column = omega (arith, at a j l .placed); turn = n; same-row = omega (arith, at a j l .placed) }) e) in
-          rw (other, b .each i c li lc, sum-next j (λ k. only (startsAt p w k i c) (lasts p k)), e) (omega arith)
+          rw (other, b .each i c li lc, sum-next j (λ k. only (startsAt p w k i c) (suc k)), e) (omega arith)
 
   -- the same from a message's words as they were read
   pub table-step : {j c r step n x : ℕ} {t t′ : List ℕ} → j < messages p → Table p w j t → c ≡ column w j → r ≡ row w j → step ≡ repeat p j → n ≡ rows p
-      → x ≡ lasts p j → Marked t c r step n x t′ → Table p w (j + 1) t′
+      → x ≡ suc j → Marked t c r step n x t′ → Table p w (j + 1) t′
   table-step l b ec er es en ex m = table-more l b (rw (ec, er, es, en, ex) at m)
 
--- the table starts with no cell held
+-- the table starts with no number in any cell
 pub table-none : (p w : List ℕ) → WellFormed p → Table p w 0 (replicate cells 0)
-unfolding held sum
+unfolding starting sum
 table-none p w wf = record {
   long = length-replicate {A = ℕ} cells 0;
   each = λ i c li lc. getD-replicate {A = ℕ} cells (cell i c) 0 0 (omega (arith, wf .header .columns-most, wf .header .rows-most));

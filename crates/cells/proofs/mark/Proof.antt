@@ -2,16 +2,16 @@
 use Prim.Native.Nat.{_*_, _<_, _-_}
 use native.Mathlib.Omega.{arith}
 use Rattle.rules.specs.Problem.{mostRows}
-use Rattle.losses.proofs.Marks.{Marking, marking-none, marking-more, marking-all}
+use Rattle.cells.proofs.Marks.{Marking, marking-none, marking-more, marking-all}
 use borrow.Author.Needs.{needs}
-use Rattle.losses.proofs.mark.Statement.{statement}
-use Rattle.losses.proofs.mark.Tie as tie
+use Rattle.cells.proofs.mark.Statement.{statement}
+use Rattle.cells.proofs.mark.Tie as tie
 
 abbrev Inv-loop : tie.InvT-loop
-Inv-loop table₀ c r step rows held i₀ table i = (i < 2 * mostRows) × Marking table₀ c r step rows held i table
+Inv-loop table₀ c r step rows number i₀ table i = (i < 2 * mostRows) × Marking table₀ c r step rows number i table
 
 abbrev μ-loop : tie.MeasureT-loop
-μ-loop table₀ c r step rows held i₀ table i = rows - i
+μ-loop table₀ c r step rows number i₀ table i = rows - i
 
 loop-holds : tie.Need-loop-holds Inv-loop μ-loop
 loop-holds c = (omega arith, marking-none _ _ _ _ _ _)
