@@ -5,7 +5,7 @@
    stack: ffy_plan up to 120,000 bytes, every other call less than 5,000.
 
    Each call stores its answer in eight words:
-     answer[0]      number: 0 is done, 1 to 18 a refusal
+     answer[0]      number: 0 is done, any other a refusal
      answer[1]      place: the column, message, node or event that a refusal speaks of, from 0; else 0
      answer[2]      second place: 0
      answer[3..7]   figures: as said at each call; all that it does not speak of are 0, and all are 0 with a refusal
@@ -30,7 +30,8 @@
     15      there are more than 16 messages to plan                                     0
     16      the output buffer is too short                                              0
     17      the event words are not five for each event, or more than 320               0
-    18      a field of an event is wrong                                                the first such event */
+    18      a field of an event is wrong                                                the first such event
+    24      the log's words are odd in number, or the span is not 1 to 100 cycles       0 */
 #ifndef FFYNORWEL_H
 #define FFYNORWEL_H
 
@@ -41,8 +42,9 @@
 extern "C" {
 #endif
 
-/* Room for every output: a problem's words, its file's bytes, a proposal of the planner, the trigger lists, response times. */
-enum { FFY_WORDS = 519, FFY_BYTES = 1296, FFY_PLAN = 32, FFY_LISTS = 2064, FFY_TIMES = 64 };
+/* Room for every output: a problem's words, its file's bytes, a proposal of the planner, the trigger lists, response times, the
+   list that is due. */
+enum { FFY_WORDS = 519, FFY_BYTES = 1296, FFY_PLAN = 32, FFY_LISTS = 2064, FFY_TIMES = 64, FFY_DUE = 422400 };
 
 /* Reads a problem file into words. Figure 0: how many words. Refuses with 1 to 8, 16. */
 void ffy_read(const uint8_t *file, size_t file_len, uint32_t *words, size_t words_len, uint32_t answer[8]);
@@ -59,6 +61,18 @@ void ffy_losses(const uint8_t *file, size_t file_len, const uint32_t *proposal, 
 /* Writes the trigger lists of the 16 nodes: their counts, then the list of each. Figure 0: how many words. Refuses with 1 to 13, 16. */
 void ffy_lists(const uint8_t *file, size_t file_len, const uint32_t *proposal, size_t proposal_len, uint32_t *words, size_t words_len,
                uint32_t answer[8]);
+
+/* Holds a log against the plan for a span of 1 to 100 matrix cycles from time 0. A log has two words a send: start time and
+   identifier, reference messages included. Figure 0: 0 if the log is exactly the list of sends that start in the span, in order,
+   and all other figures are 0 then; 1 if it differs. Figures 1 to 3: the first pair that differs, from 0 (the log's length in pairs
+   if it is too short), and the time and the identifier that were due there, both 4294967295 if nothing was.
+   Refuses with 1 to 13, 24. */
+void ffy_hold(const uint8_t *file, size_t file_len, const uint32_t *proposal, size_t proposal_len, const uint32_t *log, size_t log_len,
+              uint32_t span, uint32_t answer[8]);
+
+/* Writes the list that is due in such a span, as a log has it. Figure 0: how many words. Refuses with 1 to 13, 24, 16. */
+void ffy_due(const uint8_t *file, size_t file_len, const uint32_t *proposal, size_t proposal_len, uint32_t span, uint32_t *words,
+             size_t words_len, uint32_t answer[8]);
 
 /* Plans at most 16 messages: writes the least acceptable proposal, or answers 14 if there is none. Figure 0: how many words.
    Refuses with 1 to 8, 14 to 16. */

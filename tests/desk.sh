@@ -73,6 +73,7 @@ says 0 '   200    1      2  receives  20' lists $e/t1.tsm $e/t1.plan 0
 says 0 'node 15, triggers: 1' lists $e/t1.tsm $e/t1.plan
 says 0 'deadlines missed: 0' times $e/events.words
 says 0 'ttplan check FILE PROPOSAL' help
+says 0 'ttplan hold FILE PROPOSAL LOG SPAN' help
 
 printf '%s\n' '-- every refusal that a person can meet'
 head -c 15 $e/t1.tsm >"$scratch/short.tsm"
@@ -137,12 +138,104 @@ run show $e/document-003.words $e/document-003.plan
 [ "$(awk '{ if (length($0) > most) most = length($0) } END { print most }' "$scratch/out")" -le 80 ]
 verdict 'tables fit 80 columns'
 
+printf '%s\n' '-- a log against the plan'
+log=$scratch/log
+
+# due SPAN: the log that T1's plan has due, in a file.
+due() {
+    ./ttplan due $e/t1.tsm $e/t1.plan "$1" >"$log"
+}
+
+# differs PAIR LOGGED DUE: the log differs from one matrix cycle of T1's plan at this pair, where it has this and that is due.
+differs() {
+    run hold $e/t1.tsm $e/t1.plan "$log" 1
+    [ "$status" -eq 1 ] && [ ! -s "$scratch/err" ] && printf '%s\n' "differs at pair $1, counted from 0" "in the log: $2" "due there:  $3" | cmp -s - "$scratch/out"
+    verdict "ttplan hold: at pair $1 the log has $2; due is $3"
+}
+
+run due $e/t1.tsm $e/t1.plan 1
+[ "$status" -eq 0 ] && cmp -s "$scratch/out" $e/t1.log
+verdict "ttplan due $e/t1.tsm $e/t1.plan 1 is $e/t1.log"
+says 0 '465 16  # message 0, matrix cycle 0, row 1, column 0' due $e/t1.words $e/t1.plan 1
+says 0 '79600 1  # reference message, matrix cycle 99, row 1' due $e/t1.words $e/t1.plan 100
+answers 0 'clean: 6 sends in 1 matrix cycle' hold $e/t1.words $e/t1.plan $e/t1.log 1
+printf '0 1 65 16 200 48 400 1 465 16 600 32' >"$log"
+answers 0 'clean: 6 sends in 1 matrix cycle' hold $e/t1.tsm $e/t1.plan "$log" 1
+due 100
+answers 0 'clean: 600 sends in 100 matrix cycles' hold $e/t1.tsm $e/t1.plan "$log" 100
+for name in document-003 press-line; do
+    ./ttplan due $e/$name.words $e/$name.plan 100 >"$log"
+    says 0 'clean: ' hold $e/$name.words $e/$name.plan "$log" 100
+done
+due 1
+sed -i '2{h;d};3G' "$log"
+differs 1 'time 200, identifier 48 (hexadecimal 30): message 2' 'time 65, identifier 16 (hexadecimal 10): message 0, matrix cycle 0, row 0, column 0'
+due 1
+sed -i 4d "$log"
+differs 3 'time 465, identifier 16 (hexadecimal 10): message 0' 'time 400, identifier 1 (hexadecimal 1): reference message, matrix cycle 0, row 1'
+due 1
+sed -i 6d "$log"
+differs 5 'nothing, the log ends there' 'time 600, identifier 32 (hexadecimal 20): message 1, matrix cycle 0, row 1, column 1'
+due 1
+echo 800 1 >>"$log"
+differs 6 'time 800, identifier 1 (hexadecimal 1): reference message' 'nothing, the span ends there'
+echo 0 70000 >"$log"
+differs 0 'time 0, identifier 70000: no message of the plan' 'time 0, identifier 1 (hexadecimal 1): reference message, matrix cycle 0, row 0'
+: >"$log"
+differs 0 'nothing, the log ends there' 'time 0, identifier 1 (hexadecimal 1): reference message, matrix cycle 0, row 0'
+due 1
+wrong='refused 24, the log has an odd count of words, or the span is not 1 to 100 matrix cycles'
+answers 1 "$wrong" hold $e/t1.tsm $e/t1.plan "$log" 0
+answers 1 "$wrong" hold $e/t1.tsm $e/t1.plan "$log" 101
+answers 1 "$wrong" due $e/t1.tsm $e/t1.plan 0
+answers 1 "$wrong" due $e/t1.tsm $e/t1.plan 101
+echo 800 >>"$log"
+answers 1 "$wrong" hold $e/t1.tsm $e/t1.plan "$log" 1
+answers 1 'refused 13, message 2 meets an earlier message' hold $e/t1.tsm $e/t1-meeting.plan "$log" 1
+answers 1 'refused 13, message 2 meets an earlier message' due $e/t1.tsm $e/t1-meeting.plan 1
+wrong='not a whole number from 0 to 4,294,967,295: times are whole network time units (bit times), without a point or a unit'
+printf '0 1 # start\n50.5 16\n' >"$log"
+is_bad "log, line 2, column 1: $wrong" hold $e/t1.tsm $e/t1.plan "$log" 1
+printf '0 1\n\n  50us 16\n' >"$log"
+is_bad "log, line 3, column 3: $wrong" hold $e/t1.tsm $e/t1.plan "$log" 1
+
+printf '%s\n' '-- long logs'
+due 100
+awk '{ printf "%s %120s\n", $0, "." }' "$log" >"$scratch/long"
+[ "$(wc -c <"$scratch/long")" -gt 65536 ]
+verdict 'the log is longer than 65,536 bytes'
+answers 0 'clean: 600 sends in 100 matrix cycles' hold $e/t1.tsm $e/t1.plan "$scratch/long" 100
+printf '80000 1\n 80065,5 16\n' >>"$scratch/long"
+is_bad "long, line 602, column 2: $wrong" hold $e/t1.tsm $e/t1.plan "$scratch/long" 100
+(cat "$log" && printf '# ' && head -c 65533 /dev/zero | tr '\0' '.' && printf '\n#\n') >"$scratch/long"
+answers 0 'clean: 600 sends in 100 matrix cycles' hold $e/t1.tsm $e/t1.plan "$scratch/long" 100
+(cat "$log" && printf '# ' && head -c 65534 /dev/zero | tr '\0' '.' && printf '\n#\n') >"$scratch/long"
+is_bad 'long, line 601: a line of a log has at most 65,535 bytes' hold $e/t1.tsm $e/t1.plan "$scratch/long" 100
+seq 422402 >"$scratch/long"
+says 1 'differs at pair 0' hold $e/t1.tsm $e/t1.plan "$scratch/long" 100
+echo 1 >>"$scratch/long"
+is_bad 'long, line 422403, column 1: more than 422,402 words, where at most 422,400 can be due' hold $e/t1.tsm $e/t1.plan "$scratch/long" 100
+(
+    echo 64 5000 65 1 32 32 64
+    for c in $(seq 0 31); do echo $((65 + 140 * c)) 135; done
+    for j in $(seq 2 65); do echo "$j $((j % 16)) 0 0 10000 0 10000"; done
+) >"$scratch/full.words"
+for j in $(seq 0 63); do echo $((j / 2)) $((j % 2)); done >"$scratch/full.plan"
+run due "$scratch/full.words" "$scratch/full.plan" 100
+cp "$scratch/out" "$scratch/long"
+answers 0 'clean: 211200 sends in 100 matrix cycles' hold "$scratch/full.words" "$scratch/full.plan" "$scratch/long" 100
+
 printf '%s\n' '-- bad use'
 is_bad 'no such command' frobnicate
 is_bad 'use: ttplan check FILE PROPOSAL' check $e/t1.tsm
 is_bad 'use: ttplan show FILE [PROPOSAL]' show
 is_bad 'use: ttplan plan FILE' plan $e/t1.tsm $e/t1.plan
 is_bad 'use: ttplan times EVENTS' times
+is_bad 'use: ttplan hold FILE PROPOSAL LOG SPAN' hold $e/t1.tsm $e/t1.plan 1
+is_bad 'use: ttplan due FILE PROPOSAL SPAN' due $e/t1.tsm $e/t1.plan
+is_bad 'SPAN is a number of matrix cycles from 1 to 100' due $e/t1.tsm $e/t1.plan one
+is_bad 'nowhere.log: No such file or directory' hold $e/t1.tsm $e/t1.plan "$scratch/nowhere.log" 1
+is_bad 'Is a directory' hold $e/t1.tsm $e/t1.plan "$scratch" 1
 is_bad 'nowhere.words: No such file or directory' plan "$scratch/nowhere.words"
 is_bad 'Is a directory' plan "$scratch"
 head -c 65537 /dev/zero >"$scratch/long.tsm"

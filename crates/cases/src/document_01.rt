@@ -11,7 +11,7 @@ const DEADLINE_32: usize = 26;
 const OFFSET_48: usize = 32;
 
 // T1: two rows of 400 with three columns, and three messages.
-fn t1(words: &mut [u32]) -> usize
+pub fn t1(words: &mut [u32]) -> usize
     ensures { λ r. ⌜ Counts r (now (words .exit)) ⌝ }
 {
     build::problem(

@@ -6,12 +6,14 @@ mod document_001;
 mod document_003;
 mod document_004;
 mod document_01;
+mod document_02;
 mod limits;
 mod show;
 
 // Document by document, and then our own.
 fn main() {
     document_01::run();
+    document_02::run();
     document_000::run();
     document_001::run();
     document_003::run();

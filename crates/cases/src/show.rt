@@ -1,6 +1,8 @@
 // A case is shown on a line: what is tried, what came out, and whether that is what the document says.
 use crate::build;
 use checker::Checked;
+use log::Due;
+use log::Held;
 use losses::BusTime;
 use losses::Lost;
 use planner::Planned;
@@ -11,10 +13,17 @@ use rules::Refusal;
 use rules::words::MOST_WORDS;
 use triggers::Listed;
 use writer::Written;
+ghost use Prim.Native.Nat.{_≤_};
+ghost use lib.ListN.{length};
 ghost use Rattle.io.specs.Counts.{Counts};
 
 // The most words that a case here wants.
 const WANTED_WORDS: usize = 256;
+
+// The words that are lent for a list that is due, which is more than a case here wants, and what stands in each before.
+pub const LENT_WORDS: usize = 1208;
+
+const BEFORE: u32 = 7;
 
 // Whether two lists of words are the same.
 fn is_same(a: &[u32], b: &[u32]) -> bool {
@@ -208,5 +217,95 @@ pub fn round_trip(title: &[u8], problem: &[u32]) {
             end(is_same(front(&words, m), problem));
         }
         reader::Read::Refused(q) => end_refused(q, 0, 0),
+    }
+}
+
+// A log held against an acceptable proposal: the number of the refusal, or the index and the pair that was due where it differs, and no words where it is clean.
+pub fn hold(
+    title: &[u8],
+    problem: &[u32],
+    proposal: &[u8],
+    log: &[u32],
+    span: u32,
+    number: u32,
+    wanted: &[u8],
+) {
+    let mut file = [0u8; problem::MOST_BYTES];
+    let n = file_of(problem, &mut file);
+    let mut w = [0u32; rules::words::MOST_PROPOSAL];
+    let m = build::words(proposal, &mut w);
+    start(title, b", held: ");
+    let got = log::hold(&file[..n], &w[..m], log, span);
+    match got {
+        Held::Clean => {
+            paper::text(b"clean");
+            end((number == 0) & (wanted.len() == 0));
+        }
+        Held::Differs(d) => {
+            paper::text(b"differs, ");
+            end_words(&[d.index, d.time, d.identifier], number, wanted);
+        }
+        Held::Refused(q) => end_refused(q, number, 0),
+    }
+}
+
+// Whether a log is clean.
+fn is_clean(file: &[u8], proposal: &[u32], log: &[u32], span: u32) -> bool {
+    let got = log::hold(file, proposal, log, span);
+    match got {
+        Held::Clean => true,
+        Held::Differs(_) | Held::Refused(_) => false,
+    }
+}
+
+// Whether a lent buffer is as it was from a place on.
+fn is_kept(words: &[u32], from: usize) -> bool {
+    let mut i = from;
+    while i < words.len() && words[i] == BEFORE {
+        i += 1;
+    }
+    words.len() <= i
+}
+
+// Has the list that is due written into so many words at the front of a buffer.
+fn write_due(file: &[u8], proposal: &[u32], span: u32, room: usize, list: &mut [u32]) -> Due
+    requires { ⌜ room ≤ length (now list) ⌝ }
+{
+    log::due(file, proposal, span, &mut list[..room])
+}
+
+// The list that is due of an acceptable proposal, in a buffer of so much room: the words that are wanted, and as a log they are clean; or the number of the refusal.
+pub fn due(
+    title: &[u8],
+    problem: &[u32],
+    proposal: &[u8],
+    span: u32,
+    room: usize,
+    number: u32,
+    wanted: &[u32],
+)
+    requires { ⌜ room ≤ 1208 ⌝ }
+{
+    let mut file = [0u8; problem::MOST_BYTES];
+    let n = file_of(problem, &mut file);
+    let mut w = [0u32; rules::words::MOST_PROPOSAL];
+    let m = build::words(proposal, &mut w);
+    let mut list = [BEFORE; LENT_WORDS];
+    start(title, b", due: ");
+    let got = write_due(&file[..n], &w[..m], span, room, &mut list);
+    match got {
+        Due::Words(k) => {
+            let came = front(&list, k);
+            paper::count(k);
+            paper::text(b" words");
+            let is_right = is_same(came, wanted) & is_clean(&file[..n], &w[..m], came, span);
+            end((number == 0) & is_right & is_kept(&list, k));
+        }
+        Due::Refused(q) => {
+            if !is_kept(&list, 0) {
+                paper::text(b"written to, ");
+            }
+            end_refused(q, number, 0);
+        }
     }
 }

@@ -1,19 +1,19 @@
-// The commands: what each is given and what it answers. The first word on standard output is done, accepted or refused.
+// The commands: what each is given and what it answers. The first word on standard output is done, accepted, clean, differs or refused.
 use super::example;
-use super::input;
+use super::holding;
 use super::matrix;
-use super::reasons;
 use super::tables;
 use checker::answer::Checked;
+use files::input;
+use files::reasons;
 use losses::answer::Lost;
 use planner::answer::Planned;
-use reader::answer::Read;
 use response::Responded;
 use triggers::Listed;
 ghost use Rattle.rules.specs.Problem.{WellFormed};
 
 // The node that stands for all of them.
-const ALL_NODES: usize = triggers::NODES;
+const ALL_NODES: u32 = rules::words::NODES;
 
 // What the first argument asks for.
 enum Command {
@@ -22,6 +22,8 @@ enum Command {
     Plan,
     Losses,
     Lists,
+    Hold,
+    Due,
     Times,
     Words,
     File,
@@ -68,12 +70,10 @@ fn present(view: View, p: &[u32], w: &[u32])
 // Reads a problem file and shows it, or says why it is refused.
 fn show(view: View, file: &[u8], w: &[u32]) {
     let mut words = [basics::FILL; rules::words::MOST_WORDS];
-    let got = reader::decode(file, &mut words);
-    let Read::Problem(n) = got else {
-        reasons::refuse(reader::answer::refusal_of(got));
-        return;
-    };
-    present(view, &words[..n], w);
+    let n = input::decoded(file, &mut words);
+    if 0 < n {
+        present(view, &words[..n], w);
+    }
 }
 
 // Shows a problem with a proposal's matrix and losses.
@@ -178,8 +178,8 @@ fn on_problem(command: Command) {
     }
 }
 
-// A command on a problem and a proposal; the node is for the lists.
-fn on_proposal(command: Command, node: usize) {
+// A command on a problem and a proposal; the number is the node of the lists, or the span of a log.
+fn on_proposal(command: Command, number: u32) {
     let mut bytes = io::large_buffer();
     let got = input::problem(2, &mut bytes);
     if !got.is_good {
@@ -195,7 +195,9 @@ fn on_proposal(command: Command, node: usize) {
     match command {
         Command::Check => check(&bytes[..n], &words[..k]),
         Command::Losses => show_losses(&bytes[..n], &words[..k]),
-        Command::Lists => show_lists(&bytes[..n], &words[..k], node),
+        Command::Lists => show_lists(&bytes[..n], &words[..k], basics::wide(number)),
+        Command::Hold => holding::hold_file(&bytes[..n], &words[..k], number),
+        Command::Due => holding::show_due(&bytes[..n], &words[..k], number),
         _ => show_proposal(View::Matrix, &bytes[..n], &words[..k]),
     }
 }
@@ -211,7 +213,17 @@ fn on_lists(arguments: usize) {
         paper::say(b"ttplan: NODE is a number from 0 to 15\n");
         return;
     }
-    on_proposal(Command::Lists, node as usize);
+    on_proposal(Command::Lists, node as u32);
+}
+
+// A log held against a plan, or the log that is due, over the span that argument i names.
+fn on_span(command: Command, i: usize) {
+    let span = input::number(i);
+    if wordlist::NO_NUMBER <= span {
+        paper::say(b"ttplan: SPAN is a number of matrix cycles from 1 to 100\n");
+        return;
+    }
+    on_proposal(command, span as u32);
 }
 
 // The response times of events.
@@ -300,6 +312,12 @@ fn command_named(name: &[u8]) -> Command {
     if input::is_same(name, b"lists") {
         return Command::Lists;
     }
+    if input::is_same(name, b"hold") {
+        return Command::Hold;
+    }
+    if input::is_same(name, b"due") {
+        return Command::Due;
+    }
     if input::is_same(name, b"times") {
         return Command::Times;
     }
@@ -322,6 +340,8 @@ fn takes(command: Command, arguments: usize) -> bool {
         Command::Check => arguments == 4,
         Command::Losses => arguments == 4,
         Command::Lists => (arguments == 4) | (arguments == 5),
+        Command::Hold => arguments == 6,
+        Command::Due => arguments == 5,
         Command::Help => arguments == 2,
         Command::Unknown => false,
         _ => arguments == 3,
@@ -336,12 +356,14 @@ fn say_usage(command: Command) {
         Command::Plan => paper::say(b"ttplan: use: ttplan plan FILE\n"),
         Command::Losses => paper::say(b"ttplan: use: ttplan losses FILE PROPOSAL\n"),
         Command::Lists => paper::say(b"ttplan: use: ttplan lists FILE PROPOSAL [NODE]\n"),
+        Command::Hold => paper::say(b"ttplan: use: ttplan hold FILE PROPOSAL LOG SPAN\n"),
+        Command::Due => paper::say(b"ttplan: use: ttplan due FILE PROPOSAL SPAN\n"),
         Command::Times => paper::say(b"ttplan: use: ttplan times EVENTS\n"),
         Command::Words => paper::say(b"ttplan: use: ttplan words FILE\n"),
         Command::File => paper::say(b"ttplan: use: ttplan file WORDS\n"),
         Command::Help => paper::say(b"ttplan: use: ttplan help\n"),
         Command::Unknown => paper::say(
-            b"ttplan: no such command; they are show, check, plan, losses, lists, times, words, file and help\n",
+            b"ttplan: no such command; they are show, check, plan, losses, lists, hold, due, times, words, file and help\n",
         ),
     }
 }
@@ -349,17 +371,21 @@ fn say_usage(command: Command) {
 // What the program does, in a few lines.
 fn help() {
     paper::line(b"done");
-    paper::line(b"ttplan                             plan document 003's example");
+    paper::line(b"ttplan                              plan document 003's example");
     paper::line(
-        b"ttplan show FILE [PROPOSAL]        the problem; with a proposal its matrix and losses",
+        b"ttplan show FILE [PROPOSAL]         the problem; with a proposal its matrix and losses",
     );
-    paper::line(b"ttplan check FILE PROPOSAL         accepted, or refused and why");
-    paper::line(b"ttplan plan FILE                   the least acceptable proposal");
-    paper::line(b"ttplan losses FILE PROPOSAL        where the bus time of one matrix cycle goes");
-    paper::line(b"ttplan lists FILE PROPOSAL [NODE]  the trigger lists of all nodes or one");
-    paper::line(b"ttplan times EVENTS                response times on a plain CAN bus");
-    paper::line(b"ttplan words FILE                  a problem as a word list");
-    paper::line(b"ttplan file WORDS                  a word list as a problem file");
+    paper::line(b"ttplan check FILE PROPOSAL          accepted, or refused and why");
+    paper::line(b"ttplan plan FILE                    the least acceptable proposal");
+    paper::line(b"ttplan losses FILE PROPOSAL         where the bus time of one matrix cycle goes");
+    paper::line(b"ttplan lists FILE PROPOSAL [NODE]   the trigger lists of all nodes or one");
+    paper::line(b"ttplan hold FILE PROPOSAL LOG SPAN  clean, or where a log of the bus differs");
+    paper::line(
+        b"ttplan due FILE PROPOSAL SPAN       the log that is due in so many matrix cycles",
+    );
+    paper::line(b"ttplan times EVENTS                 response times on a plain CAN bus");
+    paper::line(b"ttplan words FILE                   a problem as a word list");
+    paper::line(b"ttplan file WORDS                   a word list as a problem file");
     paper::line(b"FILE is a problem file (.tsm) or a word list; the others are word lists:");
     paper::line(b"decimal numbers between white space, # begins a comment.");
 }
@@ -397,6 +423,8 @@ fn obey(command: Command, arguments: usize) {
             }
         }
         Command::Lists => on_lists(arguments),
+        Command::Hold => on_span(command, 5),
+        Command::Due => on_span(command, 4),
         _ => on_proposal(command, ALL_NODES),
     }
 }

@@ -1,4 +1,5 @@
 // The matrix as a table, as in document 003's figure 2: a line for each basic cycle, a column for each window. Wide ones are cut into blocks.
+use basics::smaller;
 use rules::words;
 ghost use Prim.Native.Nat.{_≤_};
 ghost use Rattle.rules.specs.Problem.{WellFormed, columns};
@@ -139,13 +140,6 @@ fn block_size(columns: usize) -> usize
         return (columns + 2) / 3;
     }
     8
-}
-
-// The smaller of two numbers.
-fn smaller(a: usize, b: usize) -> usize
-    ensures { λ r. ⌜ (r ≤ a) × (r ≤ b) ⌝ }
-{
-    if a < b { a } else { b }
 }
 
 // The windows and, if there is a proposal, the matrix that it gives.

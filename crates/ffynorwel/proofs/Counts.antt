@@ -1,6 +1,6 @@
 -- What a call wrote is counted by less than 2^32, so that the count fits a word.
 use Prim.Native.Nat.{ℕ, _<_}
-use mathlib.Core.Path.{_≡_, refl, ap}
+use mathlib.Core.Path.{_≡_, refl, ap, subst}
 use mathlib.Core.List.{List}
 use native.Mathlib.Omega.{arith}
 use Rattle.rules.specs.Problem.{WellFormed}
@@ -19,12 +19,16 @@ use Rattle.writer.specs.declared.Written.{Written}
 use Rattle.writer.specs.declared.Written.the-variants.{File}
 use Rattle.writer.specs.Answer as ofWriter
 use Rattle.writer.specs.Promise.{Writing}
-use Rattle.proposal.specs.Accepted.{Accepted}
+use Rattle.proposal.proofs.Accepting.{clear-accepted}
 use Rattle.triggers.specs.declared.Listed.{Listed}
 use Rattle.triggers.specs.declared.Listed.the-variants.{Lists}
 use Rattle.triggers.specs.Answer as ofTriggers
 use Rattle.triggers.specs.Promise.{Listing}
 use Rattle.triggers.proofs.Answering.{size-most, lists-size}
+use Rattle.log.specs.declared.answer.Due.{Due}
+use Rattle.log.specs.declared.answer.Due.the-variants.{Words}
+use Rattle.log.specs.Promise.{DueWritten}
+use Rattle.log.proofs.Results.{due-small}
 use Rattle.planner.specs.declared.answer.Planned.{Planned}
 use Rattle.planner.specs.declared.answer.Planned.the-variants.{Proposal}
 use Rattle.planner.specs.Answer as ofPlanner
@@ -45,9 +49,11 @@ write-fits p h is =
 pub lists-fits : (f : List ℕ) {w d e : List ℕ} {r : Listed} {n : ℕ} → Listing f w d e r → r ≡ Lists n → n < 4294967296
 lists-fits f h is =
     let wrote = answers-clear (ap ofTriggers.paper is) (ap ofTriggers.countOf is) (h .answers) in
-    let parts = clear-both _ _ (clear-both _ _ (wrote .0) .0) in
-    let fine : Accepted _ _ = record { formed = file-formed f (parts .0); faultless = parts .1 } in
+    let fine = clear-accepted f _ (clear-both _ _ (wrote .0) .0) in
     omega (arith, size-most (fine .formed), lists-size fine (h .lists-are (wrote .0)), wrote .1)
+
+pub due-fits : (f : List ℕ) {w d e : List ℕ} {span : ℕ} {r : Due} {n : ℕ} → DueWritten f w span d e r → r ≡ Words n → n < 4294967296
+due-fits f {w} {d} {e} {span} h is = due-small f (subst (DueWritten f w span d e) is h)
 
 answered-fits : {x : Fault} {p d e : List ℕ} {r : Planned} {n : ℕ} → (x ≡ Clear → WellFormed p) → Answered x p d e r → r ≡ Proposal n → n < 4294967296
 answered-fits formed (refused q b a) is = bad-not-clear (answers-clear (ap ofPlanner.paper is) (ap ofPlanner.countOf is) a .0) refl

@@ -12,11 +12,14 @@ use Rattle.losses.specs.Promise.{Losing}
 use Rattle.losses.proofs.Promise.{losing-one}
 use Rattle.triggers.specs.Promise.{Listing}
 use Rattle.triggers.proofs.Results.{listing-one}
+use Rattle.log.specs.Promise.{Holding, DueWritten}
+use Rattle.log.proofs.Held.{holding-one}
+use Rattle.log.proofs.Results.{due-written-one}
 use Rattle.planner.specs.Promise.{Planning}
 use Rattle.planner.proofs.Unique.{planning-one}
 use Rattle.response.specs.Promise.{Responding}
 use Rattle.response.proofs.Results.{responding-one}
-use Rattle.ffynorwel.specs.Eight.{readWords, writtenWords, checkedWords, lostWords, listedWords, plannedWords, respondedWords}
+use Rattle.ffynorwel.specs.Eight.{readWords, writtenWords, checkedWords, lostWords, listedWords, heldWords, dueWords, plannedWords, respondedWords}
 use Rattle.ffynorwel.specs.Handed.{Handed}
 
 -- the call answered r, which is s, and the words of s were stored
@@ -56,3 +59,11 @@ module _ {f w x y : List ℕ} where
 module _ (f w d : List ℕ) {e g x y : List ℕ} where
   pub ffy-lists-one : Handed (Listing f w d e) listedWords x → Handed (Listing f w d g) listedWords y → (x ≡ y) × (e ≡ g)
   ffy-lists-one = handed-both (λ r s a b. listing-one f w d a b)
+
+module _ (f w log : List ℕ) (span : ℕ) {x y : List ℕ} where
+  pub ffy-hold-one : Handed (Holding f w log span) heldWords x → Handed (Holding f w log span) heldWords y → x ≡ y
+  ffy-hold-one = handed-one (λ r s a b. holding-one f w log span a b)
+
+module _ (f w : List ℕ) (span : ℕ) (d : List ℕ) {e g x y : List ℕ} where
+  pub ffy-due-one : Handed (DueWritten f w span d e) dueWords x → Handed (DueWritten f w span d g) dueWords y → (x ≡ y) × (e ≡ g)
+  ffy-due-one = handed-both (λ r s a b. due-written-one f w span d a b)

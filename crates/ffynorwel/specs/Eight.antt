@@ -12,6 +12,10 @@ use Rattle.losses.specs.declared.answer.Lost.{Lost}
 use Rattle.losses.specs.Answer as ofLosses
 use Rattle.triggers.specs.declared.Listed.{Listed}
 use Rattle.triggers.specs.Answer as ofTriggers
+use Rattle.log.specs.declared.answer.Held.{Held}
+use Rattle.log.specs.declared.answer.Held.the-variants.{Clean, Differs, Refused}
+use Rattle.log.specs.declared.answer.Due.{Due}
+use Rattle.log.specs.Answer as ofLog
 use Rattle.planner.specs.declared.answer.Planned.{Planned}
 use Rattle.planner.specs.Answer as ofPlanner
 use Rattle.response.specs.declared.Responded.{Responded}
@@ -25,7 +29,7 @@ eight p a b c d e = p .number ∷ p .place ∷ 0 ∷ a ∷ b ∷ c ∷ d ∷ e �
 abbrev pub counted : Paper → ℕ → List ℕ
 counted p n = eight p n 0 0 0 0
 
--- ---- the figures of each call: how much was written, the five losses, the misses; 0 where there are fewer
+-- ---- the figures of each call: how much was written, the five losses, how a log differs, the misses; 0 where there are fewer
 abbrev pub readWords : Read → List ℕ
 readWords r = counted (ofReader.paper r) (ofReader.countOf r)
 
@@ -40,6 +44,14 @@ lostWords r = let t = ofLosses.figures r in eight (ofLosses.paper r) (t .referen
 
 abbrev pub listedWords : Listed → List ℕ
 listedWords r = counted (ofTriggers.paper r) (ofTriggers.countOf r)
+
+abbrev pub heldWords : Held → List ℕ
+heldWords Clean = eight (ofLog.paperHeld Clean) 0 0 0 0 0
+heldWords (Differs d) = eight (ofLog.paperHeld (Differs d)) 1 (d .index) (d .time) (d .identifier) 0
+heldWords (Refused q) = eight (ofLog.paperHeld (Refused q)) 0 0 0 0 0
+
+abbrev pub dueWords : Due → List ℕ
+dueWords r = counted (ofLog.paper r) (ofLog.countOf r)
 
 abbrev pub plannedWords : Planned → List ℕ
 plannedWords r = counted (ofPlanner.paper r) (ofPlanner.countOf r)

@@ -1,5 +1,7 @@
 // The calls for programs in other languages: each hands over the answer of its Rattle call as eight words. A slice is a pointer and a length.
 use checker::Checked;
+use log::Due;
+use log::Held;
 use losses::Lost;
 use planner::Planned;
 use reader::Read;
@@ -16,9 +18,10 @@ ghost use Rattle.writer.specs.Promise.{Writing};
 ghost use Rattle.checker.specs.Promise.{Checking};
 ghost use Rattle.losses.specs.Promise.{Losing};
 ghost use Rattle.triggers.specs.Promise.{Listing};
+ghost use Rattle.log.specs.Promise.{Holding, DueWritten};
 ghost use Rattle.planner.specs.Promise.{Planning};
 ghost use Rattle.response.specs.Promise.{Responding};
-ghost use Rattle.ffynorwel.specs.Eight.{eight, counted, readWords, writtenWords, checkedWords, lostWords, listedWords, plannedWords, respondedWords};
+ghost use Rattle.ffynorwel.specs.Eight.{eight, counted, readWords, writtenWords, checkedWords, lostWords, listedWords, heldWords, dueWords, plannedWords, respondedWords};
 ghost use Rattle.ffynorwel.specs.Handed.{Handed};
 
 // Stores number, place and figures; no answer has a second place yet.
@@ -118,6 +121,43 @@ pub extern "C" fn ffy_lists(file: &[u8], proposal: &[u32], words: &mut [u32], an
     match got {
         Listed::Lists(n) => wrote(answer, n),
         Listed::Refused(q) => refuse(answer, q),
+    }
+}
+
+// log::hold; the figures are 0 for clean or 1 for a difference, then its index and the time and identifier that were due there.
+#[no_mangle]
+pub extern "C" fn ffy_hold(
+    file: &[u8],
+    proposal: &[u32],
+    log: &[u32],
+    span: u32,
+    answer: &mut [u32; 8],
+)
+    ensures { λ _. ⌜ Handed (Holding (now (file .entry)) (now (proposal .entry)) (now (log .entry)) span) heldWords (now (answer .exit)) ⌝ }
+{
+    let got = log::hold(file, proposal, log, span);
+    match got {
+        Held::Clean => finish(answer, 0, 0, 0, 0, 0),
+        Held::Differs(d) => finish(answer, 1, d.index, d.time, d.identifier, 0),
+        Held::Refused(q) => refuse(answer, q),
+    }
+}
+
+// log::due; the figure is how many words were written.
+#[no_mangle]
+pub extern "C" fn ffy_due(
+    file: &[u8],
+    proposal: &[u32],
+    span: u32,
+    words: &mut [u32],
+    answer: &mut [u32; 8],
+)
+    ensures { λ _. ⌜ Handed (DueWritten (now (file .entry)) (now (proposal .entry)) span (now (words .entry)) (now (words .exit))) dueWords (now (answer .exit)) ⌝ }
+{
+    let got = log::due(file, proposal, span, words);
+    match got {
+        Due::Words(n) => wrote(answer, n),
+        Due::Refused(q) => refuse(answer, q),
     }
 }
 

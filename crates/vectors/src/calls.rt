@@ -1,6 +1,9 @@
 // The calls that a record can have, each with its name, and one call on one case.
 use crate::record::WORD;
 use checker::answer::Checked;
+use log::Difference;
+use log::Due;
+use log::Held;
 use losses::answer::BusTime;
 use losses::answer::Lost;
 use planner::answer::Planned;
@@ -12,6 +15,7 @@ use triggers::Listed;
 use writer::Written;
 
 // A call's number in a record. A further call takes the next number, its name in `name` and its line in `run`; `is_call` has the last.
+// A call that takes a log has none in `run`: it is made with larger buffers.
 const READ: u8 = 1;
 
 const WRITE: u8 = 2;
@@ -26,6 +30,8 @@ const PLAN: u8 = 6;
 
 const RESPONSES: u8 = 7;
 
+const HOLD: u8 = 8;
+
 // Each byte that is lent, before a call.
 pub const BYTE_PATTERN: u8 = 0xA5;
 
@@ -35,12 +41,19 @@ pub const WORD_PATTERN: u32 = 0xA5A5A5A5;
 // An answer as numbers: number, place, second place, five figures, and the lengths of the output and of the second output.
 pub const NUMBERS: usize = 10;
 
-// The figures among them.
+// The figures among them, and where the first stands.
 const FIGURES: usize = 5;
+
+const FIGURE: usize = 3;
 
 // Whether a record's call is one of these.
 pub fn is_call(call: u8) -> bool {
-    (READ <= call) & (call <= RESPONSES)
+    (READ <= call) & (call <= HOLD)
+}
+
+// Whether a call takes a log and writes nothing.
+pub fn takes_log(call: u8) -> bool {
+    call == HOLD
 }
 
 // Whether a call takes words where the others take a file.
@@ -86,7 +99,7 @@ fn numbers(number: u32, place: u32, figures: [u32; FIGURES], written: usize) -> 
 }
 
 // The answer of a call that is done and has no figures.
-fn done(written: usize) -> [u64; NUMBERS] {
+pub fn done(written: usize) -> [u64; NUMBERS] {
     numbers(0, 0, [0; FIGURES], written)
 }
 
@@ -170,6 +183,35 @@ fn respond(events: &[u32], times: &mut [u32]) -> [u64; NUMBERS] {
     }
 }
 
+// The answer where a log differs: that it does, where, and what was due there.
+fn differs(d: Difference) -> [u64; NUMBERS] {
+    numbers(0, 0, [1, d.index, d.time, d.identifier, 0], 0)
+}
+
+// Call 8: a log held against the plan.
+pub fn hold(file: &[u8], proposal: &[u32], log: &[u32], span: u32) -> [u64; NUMBERS] {
+    let got = log::hold(file, proposal, log, span);
+    match got {
+        Held::Clean => done(0),
+        Held::Differs(d) => differs(d),
+        Held::Refused(q) => refused(q),
+    }
+}
+
+// The list that is due, which no record has as its call.
+pub fn due(file: &[u8], proposal: &[u32], span: u32, list: &mut [u32]) -> [u64; NUMBERS] {
+    let got = log::due(file, proposal, span, list);
+    match got {
+        Due::Words(n) => done(n),
+        Due::Refused(q) => refused(q),
+    }
+}
+
+// Whether the answer to a log is that it is clean.
+pub fn is_clean(answer: [u64; NUMBERS]) -> bool {
+    (answer[0] == 0) & (answer[FIGURE] == 0)
+}
+
 // Runs a call by its number. Input A is there both as bytes and as words, and so is the buffer that is lent; each call takes the ones it is made for.
 pub fn run(
     call: u8,
@@ -200,6 +242,7 @@ pub fn name(call: u8) {
         LISTS => paper::text(b"lists"),
         PLAN => paper::text(b"plan"),
         RESPONSES => paper::text(b"responses"),
+        HOLD => paper::text(b"hold"),
         _ => {
             paper::text(b"call ");
             paper::number(basics::byte(call));

@@ -3,12 +3,15 @@ mod calls;
 mod compare;
 mod record;
 
+use calls::NUMBERS;
 use compare::Difference;
 use record::BLOCK_BYTES;
 use record::INPUT_BYTES;
 use record::INPUT_WORDS;
 use record::LIST_BYTES;
 use record::LIST_WORDS;
+use record::LOG_BYTES;
+use record::LOG_WORDS;
 use record::MOST_ROOM;
 use record::Number;
 use record::OUTPUT_BYTES;
@@ -122,6 +125,54 @@ fn run_case(
     )
 }
 
+// Holds the list that is due, and what is behind it in a longer buffer, to a log that is clean.
+fn judge_due(file: &[u8], proposal: &[u32], log: &[u32], span: u32) -> Difference {
+    let mut due = [calls::WORD_PATTERN; LOG_WORDS];
+    let got = calls::due(file, proposal, span, &mut due);
+    compare::compare(got, calls::done(log.len()), &due, log, calls::WORD_PATTERN)
+}
+
+// Holds a log against the plan and the answer to what is expected. A log that is clean is the list that is due.
+fn judge_log(
+    file: &[u8],
+    proposal: &[u32],
+    log: &[u32],
+    span: u32,
+    expected: [u64; NUMBERS],
+) -> Difference {
+    let got = calls::hold(file, proposal, log, span);
+    let d = compare::compare(got, expected, &[], &[], calls::WORD_PATTERN);
+    let Difference::None = d else {
+        return d;
+    };
+    if !calls::is_clean(got) {
+        return Difference::None;
+    }
+    judge_due(file, proposal, log, span)
+}
+
+// Runs a case with a log in buffers of its own.
+fn log_case(
+    file: &[u8],
+    proposal: &[u8],
+    log: &[u8],
+    block: &[u8; BLOCK_BYTES],
+    output: usize,
+    output_2: usize,
+) -> Difference {
+    let mut b = [0u32; LIST_WORDS];
+    let in_b = record::gather(proposal, &mut b);
+    let mut c = [basics::FILL; LOG_WORDS];
+    let in_c = record::gather(log, &mut c);
+    judge_log(
+        file,
+        &b[..in_b],
+        &c[..in_c],
+        record::span(block),
+        compare::expected(block, output, output_2),
+    )
+}
+
 // Runs a case that has been read, unless there is no such call or its lengths cannot be.
 fn try_case(
     call: u8,
@@ -129,6 +180,7 @@ fn try_case(
     room: usize,
     input: &[u8],
     proposal: &[u8],
+    log: &[u8],
     block: &[u8; BLOCK_BYTES],
     output: &[u8],
 ) -> Difference
@@ -143,6 +195,10 @@ fn try_case(
     let a = record::front(input, size.input);
     let b = record::front(proposal, size.proposal);
     let o = record::front(output, size.output);
+    if calls::takes_log(call) {
+        let c = record::front(log, size.log);
+        return log_case(a, b, c, block, o.len(), size.output_2);
+    }
     run_case(call, a, b, room, block, o, size.output_2)
 }
 
@@ -161,8 +217,8 @@ fn show(name: &[u8], at: u32, is_shown: bool, call: u8, d: Difference) -> bool {
     false
 }
 
-// Reads the next case and runs it.
-fn next_case(fd: i32, name: &[u8], at: u32, is_shown: bool) -> Ran {
+// Reads the next case and runs it. The buffer for its log is the file's: it is too long to be filled for each case.
+fn next_case(fd: i32, name: &[u8], at: u32, is_shown: bool, log: &mut [u8]) -> Ran {
     let mut head = [0u8; 1];
     let mut input = [0u8; INPUT_BYTES];
     let mut proposal = [0u8; LIST_BYTES];
@@ -172,7 +228,7 @@ fn next_case(fd: i32, name: &[u8], at: u32, is_shown: bool) -> Ran {
         return stop(name, at, b" is missing\n");
     }
     let call = head[0];
-    let got = record::read_record(fd, &mut input, &mut proposal, &mut block, &mut output);
+    let got = record::read_record(fd, &mut input, &mut proposal, log, &mut block, &mut output);
     let Record::Whole(size) = got else {
         return stop_at(name, at, got);
     };
@@ -180,7 +236,7 @@ fn next_case(fd: i32, name: &[u8], at: u32, is_shown: bool) -> Ran {
     if MOST_ROOM < room {
         return stop_at(name, at, Record::TooLong);
     }
-    let d = try_case(call, size, room, &input, &proposal, &block, &output);
+    let d = try_case(call, size, room, &input, &proposal, log, &block, &output);
     Ran::Agrees(show(name, at, is_shown, call, d))
 }
 
@@ -212,7 +268,7 @@ fn end_file(fd: i32, name: &[u8], cases: u32, agree: u32) {
 }
 
 // Runs the cases of a file, up to the last or to one that cannot be read. The first SHOWN that differ are shown.
-fn run_file(fd: i32, name: &[u8]) {
+fn run_cases(fd: i32, name: &[u8], log: &mut [u8]) {
     let start = start_file(fd);
     let Number::Is(count) = start else {
         paper::text(name);
@@ -222,7 +278,7 @@ fn run_file(fd: i32, name: &[u8]) {
     let mut at: u32 = 0;
     let mut agree: u32 = 0;
     while at < count {
-        let ran = next_case(fd, name, at, at - agree < SHOWN);
+        let ran = next_case(fd, name, at, at - agree < SHOWN, log);
         let Ran::Agrees(is_same) = ran else {
             return;
         };
@@ -232,6 +288,12 @@ fn run_file(fd: i32, name: &[u8]) {
         at += 1;
     }
     end_file(fd, name, count, agree);
+}
+
+// Runs the cases of a file, with one buffer for all their logs.
+fn run_file(fd: i32, name: &[u8]) {
+    let mut log = [0u8; LOG_BYTES];
+    run_cases(fd, name, &mut log);
 }
 
 // Runs the file that an argument names.

@@ -17,6 +17,12 @@ pub const LIST_WORDS: usize = 2048;
 // The most bytes of such a list.
 pub const LIST_BYTES: usize = WORD * LIST_WORDS;
 
+// The most words of a log, which is list C: a pair more than the longest list that is due.
+pub const LOG_WORDS: usize = log::MOST_WORDS + log::PAIR;
+
+// The most bytes of a log.
+pub const LOG_BYTES: usize = WORD * LOG_WORDS;
+
 // The most words or bytes that are lent for the output.
 pub const MOST_ROOM: usize = 8192;
 
@@ -26,6 +32,8 @@ pub const OUTPUT_BYTES: usize = WORD * MOST_ROOM;
 // The bytes of the block of numbers between the inputs and the outputs: span, room and room 2; then what is expected, that is number,
 // place, second place and five figures. Behind it are the places in the block of those that are read here.
 pub const BLOCK_BYTES: usize = 41;
+
+const SPAN: usize = 0;
 
 const ROOM: usize = 4;
 
@@ -60,6 +68,11 @@ pub fn number_at(block: &[u8; BLOCK_BYTES], at: usize) -> u32
     requires { ⌜ at + 4 ≤ 41 ⌝ }
 {
     joined(block[at], block[at + 1], block[at + 2], block[at + 3])
+}
+
+// How many matrix cycles a log is held against.
+pub fn span(block: &[u8; BLOCK_BYTES]) -> u32 {
+    number_at(block, SPAN)
 }
 
 // How many words or bytes are lent for the output.
@@ -107,14 +120,18 @@ fn read_list(fd: i32, buffer: &mut [u8]) -> Part {
     read_bytes(fd, WORD * basics::wide(count), buffer)
 }
 
-// Reads past the lists C and D, which no call takes yet.
-fn pass_lists(fd: i32) -> Part {
-    let mut list = [0u8; LIST_BYTES];
-    let third = read_list(fd, &mut list);
-    let Part::Bytes(_) = third else {
+// Reads list C, a log, and past list D, which no call takes yet; answers how many bytes the log has.
+fn read_log(fd: i32, log: &mut [u8]) -> Part {
+    let third = read_list(fd, log);
+    let Part::Bytes(n) = third else {
         return third;
     };
-    read_list(fd, &mut list)
+    let mut list = [0u8; LIST_BYTES];
+    let fourth = read_list(fd, &mut list);
+    let Part::Bytes(_) = fourth else {
+        return fourth;
+    };
+    Part::Bytes(n)
 }
 
 // Reads past the second output, which no call has yet; its length is compared.
@@ -127,6 +144,7 @@ fn pass_output(fd: i32) -> Part {
 pub struct Sizes {
     pub input: usize,
     pub proposal: usize,
+    pub log: usize,
     pub output: usize,
     pub output_2: usize,
 }
@@ -151,6 +169,7 @@ pub fn read_record(
     fd: i32,
     input: &mut [u8],
     proposal: &mut [u8],
+    log: &mut [u8],
     block: &mut [u8; BLOCK_BYTES],
     output: &mut [u8],
 ) -> Record {
@@ -162,9 +181,9 @@ pub fn read_record(
     let Part::Bytes(b) = of_proposal else {
         return broken(of_proposal);
     };
-    let of_lists = pass_lists(fd);
-    let Part::Bytes(_) = of_lists else {
-        return broken(of_lists);
+    let of_log = read_log(fd, log);
+    let Part::Bytes(c) = of_log else {
+        return broken(of_log);
     };
     if io::read_full(fd, block) != BLOCK_BYTES {
         return Record::CutShort;
@@ -180,6 +199,7 @@ pub fn read_record(
     Record::Whole(Sizes {
         input: a,
         proposal: b,
+        log: c,
         output: o,
         output_2: o2,
     })

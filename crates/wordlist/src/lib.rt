@@ -1,11 +1,10 @@
 // Word lists: decimal numbers between white space, where # begins a comment that the end of the line ends.
-ghost use mathlib.Core.Path.{_≡_};
 ghost use Prim.Native.Nat.{_+_, _<_, _≤_};
 ghost use lib.ListN.{length};
 ghost use Rattle.wordlist.specs.Text.{Digit, Numeral, Next, Ended, Taken};
 
 // More than any word: what stands for a text that is no number.
-const NO_NUMBER: u64 = 4294967296;
+pub const NO_NUMBER: u64 = 4294967296;
 
 // How many words were taken from a text, and where the reading ended: at the text's end, at a word that is no number, or at one too many.
 pub struct Parsed {
@@ -111,7 +110,9 @@ pub fn parse(text: &[u8], words: &mut [u32]) -> Parsed
 }
 
 // The line that a text ends in, from 1.
-pub fn line_of(text: &[u8]) -> usize {
+pub fn line_of(text: &[u8]) -> usize
+    ensures { λ r. ⌜ (1 ≤ r) × (r ≤ length (now (text .entry)) + 1) ⌝ }
+{
     let mut line: usize = 1;
     let mut i: usize = 0;
     while i < text.len() {

@@ -8,7 +8,7 @@ use Rattle.wordlist.proofs.line_of.Statement.{statement}
 use Rattle.wordlist.proofs.line_of.Tie as tie
 
 abbrev Inv-loop : tie.InvT-loop
-Inv-loop text line₀ i₀ line i = (i ≤ length text) × (line ≤ i + 1)
+Inv-loop text line₀ i₀ line i = (i ≤ length text) × (1 ≤ line) × (line ≤ i + 1)
 
 abbrev μ-loop : tie.MeasureT-loop
 μ-loop text line₀ i₀ line i = length text - i

@@ -1,0 +1,26 @@
+-- Nothing has to hold from turn to turn; one word a turn.
+use Prim.Native.Nat.{_-_}
+use lib.ListN.{length}
+use borrow.Author.Needs.{needs}
+use Rattle.cases.proofs.show.is_kept.Statement.{statement}
+use Rattle.cases.proofs.show.is_kept.Tie as tie
+
+abbrev Inv-loop : tie.InvT-loop
+Inv-loop words from i₀ i = Unit {0}
+
+abbrev μ-loop : tie.MeasureT-loop
+μ-loop words from i₀ i = length words - i
+
+pub is-kept-spec : {M : Type 1} → statement M
+is-kept-spec =
+    tie.close
+    (tie.spec
+    Inv-loop
+    μ-loop
+    (λ c. search needs)
+    (λ c. search needs)
+    (λ c. search needs)
+    (λ c. search needs)
+    (λ c. search needs)
+    (λ c. search needs)
+    (λ c. search needs))

@@ -1,0 +1,18 @@
+-- The buffer's length is given by a law: to count it would take the list apart.
+use Prim.Native.Nat.{ℕ}
+use mathlib.Core.Path.{sym}
+use lib.ListN.{length-replicate}
+use borrow.Author.Needs.{needs}
+use Rattle.vectors.proofs.judge_due.Statement.{statement}
+use Rattle.vectors.proofs.judge_due.Tie as tie
+
+pub judge-due-spec : {M : Type 1} → statement M
+judge-due-spec =
+    tie.close
+    (tie.spec
+    (λ c. sym (length-replicate {A = ℕ} 422402 2779096485))
+    (λ c κs. search needs)
+    (λ c κs. search needs)
+    (λ c. search needs)
+    (λ c κs. search needs)
+    (λ c. search needs))
