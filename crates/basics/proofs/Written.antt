@@ -2,15 +2,12 @@
 use Prim.Native.Nat.{ℕ, zero, suc, _+_, _-_, _≤_}
 use mathlib.Core.Path.{_≡_, refl, sym, ap, _∙_}
 use mathlib.Core.List.{List, [], _++_}
-use mathlib.Core.Logic.{⊎-elim}
-use native.Mathlib.Nat.{le-refl, eq-or-lt-of-le}
 use native.Mathlib.Omega.{arith}
 use borrow.Rule.Slice.PartMut.{putMid}
-use lib.Arith.{le-zero}
 use lib.ListN.{length, take, drop, length-append, length-drop}
 use Rattle.basics.specs.Runs.{run, Put}
 use Rattle.basics.specs.Sums.{sum}
-use Rattle.basics.proofs.Runs.{tail-part, put-tail}
+use Rattle.basics.proofs.Runs.{run-split, tail-part, put-tail}
 
 -- ---- a buffer that is written from the front
 -- x stands at the front of the buffer d, which then is l, and ends at `at`, inside it
@@ -46,14 +43,11 @@ module _ (g : ℕ → List ℕ) where
   length-pieces zero = refl
   length-pieces (suc n) = length-append (run n g) (g n) ∙ ap (_+ length (g n)) (length-pieces n)
 
-  run-grows : (n i : ℕ) → i ≤ n → length (run i g) ≤ length (run n g)
-  unfolding run
-  run-grows zero i l = rw (le-zero l) (le-refl _)
-  run-grows (suc n) i l =
-      ⊎-elim (λ e. rw e (le-refl _)) (λ k. let a = run-grows n i (omega arith) in omega (arith, length-append (run n g) (g n))) (eq-or-lt-of-le l)
-
+  -- the first pieces have room where all have
   pub run-room : (n i : ℕ) {m : ℕ} → i ≤ n → length (run n g) ≤ m → length (run i g) ≤ m
-  run-room n i l h = omega (arith, run-grows n i l)
+  run-room n i l h =
+      let e : n ≡ i + (n - i) = omega arith in
+      omega (arith, ap (λ (k : ℕ). length (run k g)) e, ap length (run-split g i (n - i)), length-append (run i g) (run (n - i) (λ k. g (i + k))))
 
   pub run-all : {n m : ℕ} {d l : List ℕ} {at : ℕ} → n ≡ m → Begins (run n g) d l at → Put (run m g) d l at
   run-all e h = rw e at (h .put)

@@ -1,13 +1,12 @@
 -- Where a log differs first from the words that are due, or that it does not.
 use Prim.Native.Nat.{ℕ, zero, suc, _+_, _*_, _/_, _%_, _<_, _≤_}
-use mathlib.Core.Path.{_≡_, refl, sym, ap, ap₂, subst, _∙_}
+use mathlib.Core.Path.{_≡_, sym, ap, ap₂, subst, _∙_}
 use mathlib.Core.List.{List, [], _∷_, _++_}
 use native.Mathlib.Decide.{decLt}
 use native.Mathlib.Numerals.{add-one}
 use native.Mathlib.Omega.{arith}
 use lib.ListN.{length, getD, take, drop, length-append, take-append-drop, drop-of-length-le, List·getD-append}
-use lib.Seq.{drop-cons, take-all, take-append-le}
-use Rattle.basics.proofs.Runs.{tab, listed-take}
+use lib.Seq.{drop-cons, take-all, take-append-le, length-take-le, getD-take, ext-getD}
 use Rattle.log.specs.declared.answer.Difference.{Difference}
 use Rattle.log.specs.Against.{pairAt, nothing, Differing}
 use Rattle.log.specs.Parts.{Agreed, Agreeing}
@@ -24,15 +23,14 @@ pair-is l i h = rw (drop-cons l (2 * i) 0 (omega arith), drop-cons l (suc (2 * i
 
 module _ {x log : List ℕ} where
   pub same-take : {s : ℕ} → Same x log s → take s log ≡ take s x
-  same-take {s} h = sym (listed-take s log (h .in-log)) ∙ tab-same s (λ i. getD log i 0) (λ i. getD x i 0) (h .each) ∙ listed-take s x (h .inside)
-    where
-      tab-same : (n : ℕ) (f g : ℕ → ℕ) → ((i : ℕ) → i < n → f i ≡ g i) → tab f n ≡ tab g n
-      tab-same zero f g e = refl
-      tab-same (suc n) f g e = ap₂ _∷_ (e 0 (omega arith)) (tab-same n (λ i. f (suc i)) (λ i. g (suc i)) (λ i l. e (suc i) (omega arith)))
+  same-take {s} h =
+      let here = length-take-le s log (h .in-log) in
+      let there = length-take-le s x (h .inside) in
+      ext-getD 0 (take s log) (take s x) (here ∙ sym there) (λ i l. getD-take s log i 0 (omega arith) ∙ h .each i (omega arith) ∙ sym (getD-take s x i 0 (omega arith)))
 
   -- the log is x, or begins with it
-  pub same-all : Same x log (length x) → log ≡ x ++ drop (length x) log
-  same-all h = sym (take-append-drop (length x) log) ∙ ap (_++ drop (length x) log) (same-take h ∙ take-all (length x) x (omega arith))
+  pub same-all : {n : ℕ} → n ≡ length x → Same x log n → log ≡ x ++ drop n log
+  same-all {n} e h = sym (take-append-drop n log) ∙ ap (_++ drop n log) (same-take h ∙ take-all n x (omega arith))
 
   pub same-clean : Same x log (length x) → length log ≤ length x → log ≡ x
   same-clean h l = sym (take-all (length x) log l) ∙ same-take h ∙ take-all (length x) x (omega arith)

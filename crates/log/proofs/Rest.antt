@@ -7,7 +7,7 @@ use lib.ListN.{length, getD, take, drop, length-append, length-drop, List·getD-
 use lib.Seq.{getD-take, getD-drop, length-take-le}
 use Rattle.basics.specs.Runs.{run}
 use Rattle.basics.proofs.Runs.{run-split}
-use Rattle.rules.specs.Problem.{rows, cycle, matrix, messages}
+use Rattle.rules.specs.Problem.{mostRows, rows, cycle, matrix, messages}
 use Rattle.rules.proofs.Bounds.{rows-least}
 use Rattle.proposal.specs.Accepted.{Accepted}
 use Rattle.cells.specs.Table.{Table}
@@ -16,10 +16,11 @@ use Rattle.log.specs.declared.Opening.the-variants.{Whole, Differs}
 use Rattle.log.specs.Span.{IsDue, cycleSends, mostSpan}
 use Rattle.log.specs.Against.{Differing, nothing}
 use Rattle.log.specs.Parts.{Agreeing, Begins, with-all, but-for}
-use Rattle.log.specs.Rows.{rowWords}
+use Rattle.log.specs.Rows.{rowWords, rowMost}
 use Rattle.log.proofs.Differing.{Same, Tells, same-on, apart-at, same-clean, differing-at, differing-behind, differing-longer}
 use Rattle.log.proofs.Early.{time-fits}
 use Rattle.log.proofs.Later.{comes-again}
+use Rattle.log.proofs.Rows.{rows-most}
 use Rattle.log.proofs.Size.{due-size}
 use Rattle.log.proofs.Walk.{rows-due}
 
@@ -74,25 +75,28 @@ module _ {p w t : List ℕ} (a : Accepted p w) (b : Table p w (messages p) t) (s
     pub first-differs : {d : Difference} → Begins one log (Differs d) → Differing all log d
     first-differs (but-for d l h) = rw all-parts (differing-longer (run more (λ i. rowWords p t (rows p + i))) l h)
 
-    first-same : Begins one log Whole → Same all log (length one)
-    first-same (with-all e) = record {
+    first-size : {n : ℕ} → Begins one log (Whole n) → n ≡ length one
+    first-size (with-all n en e) = en
+
+    pub first-few : {n : ℕ} → Begins one log (Whole n) → n ≤ mostRows * rowMost
+    first-few b = omega (arith, first-size b, rows-most p t (rows p) (a .formed .header .columns-most), a .formed .header .rows-most)
+
+    first-same : {n : ℕ} → Begins one log (Whole n) → Same all log n
+    first-same (with-all n en e) = record {
       inside = omega (arith, ap length all-parts, length-append one (run more (λ i. rowWords p t (rows p + i))));
-      in-log = omega (arith, ap length e, length-append one (drop (length one) log));
+      in-log = omega (arith, ap length e, length-append one (drop n log));
       each = λ k l.
           ap (λ (x : List ℕ). getD x k 0) e
-          ∙ List·getD-append one (drop (length one) log) 0 k l
-          ∙ sym (List·getD-append one (run more (λ i. rowWords p t (rows p + i))) 0 k l)
+          ∙ List·getD-append one (drop n log) 0 k (omega arith)
+          ∙ sym (List·getD-append one (run more (λ i. rowWords p t (rows p + i))) 0 k (omega arith))
           ∙ ap (λ (x : List ℕ). getD x k 0) (sym all-parts);
     }
 
     -- ---- behind it: `full` words are due, `reach` of them can be compared, and r behind the first n are as they were a matrix cycle before
     module _
-        (first : Begins one log Whole) (even : length log % 2 ≡ 0) {n full later reach : ℕ} (en : n ≡ length one) (ef : full ≡ length all)
+        {n full later reach : ℕ} (begun : Same all log n) (even : length log % 2 ≡ 0) (en : n ≡ length one) (ef : full ≡ length all)
         (el : later ≡ matrix p) (er : reach ≡ min (length log) full)
       where
-        begun : Same all log n
-        begun = subst (Same all log) (sym en) (first-same first)
-
         pair-first : (2 ≤ n) × (n % 2 ≡ 0)
         unfolding cycleSends
         pair-first = let least = rows-least (a .formed) in (omega (arith, one-size), omega (arith, one-size))
@@ -206,19 +210,16 @@ module _ {p w t : List ℕ} (a : Accepted p w) (b : Table p w (messages p) t) (s
                   let e : n + r ≡ length all = omega arith in
                   same-clean (subst (Same all log) e rest-same) (omega arith)
 
-    -- ---- the same from the sends of a matrix cycle as they were counted
+    -- ---- the same from how the log begins
     module _
-        (first : Begins one log Whole) (even : length log % 2 ≡ 0) {n full later reach : ℕ} (sends : n ≡ 2 * cycleSends p) (cycles : full ≡ n * span)
+        {n full later reach : ℕ} (first : Begins one log (Whole n)) (even : length log % 2 ≡ 0) (cycles : full ≡ n * span)
         (el : later ≡ matrix p) (er : reach ≡ min (length log) full)
       where
-        n-is : n ≡ length one
-        n-is = sends ∙ sym one-size
-
         full-is : full ≡ length all
-        full-is = cycles ∙ ap (_* span) n-is ∙ sym all-size
+        full-is = cycles ∙ ap (_* span) (first-size first) ∙ sym all-size
 
         pub lengths : Lengths log n reach
-        lengths = lengths-by first even n-is full-is el er
+        lengths = lengths-by (first-same first) even (first-size first) full-is el er
 
         pub outcome : {r : ℕ} → Agreeing (take (reach - n) log) later (take (reach - n) (drop n log)) r → Outcome all log n full later r
-        outcome c = outcome-by first even n-is full-is el er c
+        outcome c = outcome-by (first-same first) even (first-size first) full-is el er c

@@ -27,5 +27,5 @@ pub record Agreeing (x : List ℕ) (later : ℕ) (log : List ℕ) (r : ℕ) : Ty
 
 -- the log begins with x, or it differs within x
 pub data Begins (x log : List ℕ) : Opening → Type 0 where
-  with-all : log ≡ x ++ drop (length x) log → Begins x log Whole
+  with-all : (n : ℕ) → n ≡ length x → log ≡ x ++ drop n log → Begins x log (Whole n)
   but-for : (d : Difference) → 2 * d .index + 1 < length x → Differing x log d → Begins x log (Differs d)

@@ -173,9 +173,9 @@ fn agreeing(due: &[u32], later: usize, log: &[u32]) -> usize
     at
 }
 
-// How a log begins: with all that is due, or where it differs from that.
+// How a log begins: with all that is due, so many words, or where it differs from that.
 pub enum Opening {
-    Whole,
+    Whole(usize),
     Differs(Difference),
 }
 
@@ -201,7 +201,7 @@ fn hold_rows(p: &[u32], table: &[u8; CELLS], log: &[u32]) -> Opening
         at += n;
         i += 1;
     }
-    Opening::Whole
+    Opening::Whole(at)
 }
 
 // Holds a log against an accepted proposal: where its first matrix cycle is the one that is due, each later pair must be the one
@@ -213,10 +213,10 @@ fn hold_accepted(p: &[u32], w: &[u32], log: &[u32], span: usize) -> Held
     let mut table = [0u8; CELLS];
     cells::fill(p, w, &mut table);
     let first = hold_rows(p, &table, log);
-    if let Opening::Differs(d) = first {
-        return Held::Differs(d);
-    }
-    let n = PAIR * cycle_sends(p);
+    let n = match first {
+        Opening::Differs(d) => return Held::Differs(d),
+        Opening::Whole(n) => n,
+    };
     let all = n * span;
     let later = words::rows_of(p) * words::cycle_of(p);
     let reach = smaller(log.len(), all);

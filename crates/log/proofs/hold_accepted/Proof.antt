@@ -15,17 +15,17 @@ use Rattle.log.specs.Against.{Against, clean, differs}
 use Rattle.log.specs.Answer.{paperHeld}
 use Rattle.log.specs.Promise.{HoldingAccepted}
 use Rattle.log.specs.Span.{IsDue, mostSpan}
-use Rattle.log.specs.Rows.{cycleMost, matrixMost}
+use Rattle.log.specs.Rows.{matrixMost, rowMost}
 use Rattle.log.specs.Parts.{Begins}
-use Rattle.log.proofs.Rest.{Lengths, Outcome, one, all, first-differs, lengths, outcome}
+use Rattle.log.proofs.Rest.{Lengths, Outcome, one, all, first-differs, first-few, lengths, outcome}
 use Rattle.log.proofs.Tables.{table-numbered}
 use Rattle.log.proofs.Walk.{rows-due}
 use borrow.Author.Needs.{needs}
 use Rattle.log.proofs.hold_accepted.Statement.{statement}
 use Rattle.log.proofs.hold_accepted.Tie as tie
 
--- from where the sends are counted back to the first matrix cycle's answer, to the table, and to the call's start
-abbrev held : tie.After-cycle-sends → tie.After-hold-rows
+-- from where the first matrix cycle is known to be right back to its answer, to the table, and to the call's start
+abbrev held : tie.After-known-told2 → tie.After-hold-rows
 held c = c .before .before .before
 
 abbrev filled : tie.After-hold-rows → tie.After-fill
@@ -35,47 +35,53 @@ abbrev begun : tie.After-fill → tie.Start
 begun c = c .before .before .before .before .before
 
 -- and to there from where the reach of the comparing is known
-abbrev sized : tie.After-smaller → tie.After-cycle-sends
-sized c = c .before .before .before
+abbrev opened : tie.After-smaller → tie.After-known-told2
+opened c = c .before .before .before
 
 -- the words that are due
 abbrev due : tie.After-fill → List ℕ
 due c = let start = begun c in all (start .pre .0) (c .fill .ensures) (start .args .span) (start .pre .2) (start .pre .3)
 
--- the first matrix cycle is right
-whole : (c : tie.After-cycle-sends) → let made = filled (held c) in let start = begun made in
-    Begins (one (start .pre .0) (made .fill .ensures) (start .args .span) (start .pre .2) (start .pre .3)) (start .args .log .now) Whole
-whole c = subst (Begins _ _) (c .before .enum-told .given .1) (held c .hold-rows .ensures)
+-- how many words the first matrix cycle has, and that it is right
+abbrev first : tie.After-known-told2 → ℕ
+first c = c .before .first2 .given .0 .0
+
+whole : (c : tie.After-known-told2) → let made = filled (held c) in let start = begun made in
+    Begins (one (start .pre .0) (made .fill .ensures) (start .args .span) (start .pre .2) (start .pre .3)) (start .args .log .now) (Whole (first c))
+whole c = subst (Begins _ _) (c .before .first2 .given .1) (held c .hold-rows .ensures)
 
 -- how far the log can be compared, and what the comparing says
-abbrev first : tie.After-smaller → ℕ
-first c = 2 * sized c .cycle-sends .result
-
 abbrev full : tie.After-smaller → ℕ
-full c = first c * begun (filled (held (sized c))) .args .span
+full c = first (opened c) * begun (filled (held (opened c))) .args .span
 
 abbrev later : tie.After-smaller → ℕ
 later c = c .before .before .rows-of .result * c .before .cycle-of .result
 
-reach : (c : tie.After-smaller) → Lengths (begun (filled (held (sized c))) .args .log .now) (first c) (c .smaller .result)
+reach : (c : tie.After-smaller) → Lengths (begun (filled (held (opened c))) .args .log .now) (first (opened c)) (c .smaller .result)
 reach c =
-    let made = filled (held (sized c)) in
+    let made = filled (held (opened c)) in
     let start = begun made in
-    lengths (start .pre .0) (made .fill .ensures) (start .args .span) (start .pre .2) (start .pre .3) (whole (sized c)) (start .pre .1) (ap (2 *_) (sized c .cycle-sends .ensures .0)) refl
+    lengths (start .pre .0) (made .fill .ensures) (start .args .span) (start .pre .2) (start .pre .3) (whole (opened c)) (start .pre .1) refl
     (ap₂ _*_ (c .before .before .rows-of .ensures .0) (c .before .cycle-of .ensures .0)) (c .smaller .ensures)
 
-says : (c : tie.After-agreeing) → let reached = c .before .before .before in let made = filled (held (sized reached)) in
-    Outcome (due made) (begun made .args .log .now) (first reached) (full reached) (later reached) (c .agreeing .result)
+says : (c : tie.After-agreeing) → let reached = c .before .before .before in let made = filled (held (opened reached)) in
+    Outcome (due made) (begun made .args .log .now) (first (opened reached)) (full reached) (later reached) (c .agreeing .result)
 says c =
     let reached = c .before .before .before in
-    let made = filled (held (sized reached)) in
+    let made = filled (held (opened reached)) in
     let start = begun made in
-    outcome (start .pre .0) (made .fill .ensures) (start .args .span) (start .pre .2) (start .pre .3) (whole (sized reached)) (start .pre .1) (ap (2 *_) (sized reached .cycle-sends .ensures .0)) refl
+    outcome (start .pre .0) (made .fill .ensures) (start .args .span) (start .pre .2) (start .pre .3) (whole (opened reached)) (start .pre .1) refl
     (ap₂ _*_ (reached .before .before .rows-of .ensures .0) (reached .before .cycle-of .ensures .0)) (reached .smaller .ensures) (c .agreeing .ensures)
 
--- what a cycle's sends and its length come to is small
-full-small : (c : tie.After-cycle-sends) → 2 * c .cycle-sends .result * begun (filled (held c)) .args .span ≤ 2 * cycleMost * mostSpan
-full-small c = let start = begun (filled (held c)) in mul-le-mul {n₂ = 2 * cycleMost} {m₂ = mostSpan} (omega (arith, c .cycle-sends .ensures .1)) (start .pre .3)
+-- what a cycle's words and its length come to is small
+first-small : (c : tie.After-known-told2) → first c ≤ mostRows * rowMost
+first-small c =
+    let made = filled (held c) in
+    let start = begun made in
+    first-few (start .pre .0) (made .fill .ensures) (start .args .span) (start .pre .2) (start .pre .3) (whole c)
+
+full-small : (c : tie.After-known-told2) → first c * begun (filled (held c)) .args .span ≤ mostRows * rowMost * mostSpan
+full-small c = mul-le-mul {n₂ = mostRows * rowMost} {m₂ = mostSpan} (first-small c) (begun (filled (held c)) .pre .3)
 
 later-small : (c : tie.After-cycle-of) → c .before .rows-of .result * c .cycle-of .result ≤ matrixMost
 later-small c = mul-le-mul {n₂ = mostRows} {m₂ = 65535} (c .before .rows-of .ensures .2) (c .cycle-of .ensures .2)
@@ -97,12 +103,12 @@ hold-rows-requires c κs =
 
 returns : tie.Need-returns
 returns c =
-    let first = c .before in
-    let opened = first .before .before in
-    let made = filled opened in
+    let found = c .before in
+    let rows = found .before .before in
+    let made = filled rows in
     let start = begun made in
     answered refl (rows-due (start .pre .0) (made .fill .ensures) (start .args .span))
-    (differs _ (first-differs (start .pre .0) (made .fill .ensures) (start .args .span) (start .pre .2) (start .pre .3) (subst (Begins _ _) (first .first .given .1) (opened .hold-rows .ensures))))
+    (differs _ (first-differs (start .pre .0) (made .fill .ensures) (start .args .span) (start .pre .2) (start .pre .3) (subst (Begins _ _) (found .first .given .1) (rows .hold-rows .ensures))))
 
 mul-all : tie.Need-mul-all
 mul-all c = omega (arith, full-small c)
@@ -125,6 +131,9 @@ part-agreeing-start c = let r = reach (c .before) in omega arith
 part-agreeing-end : tie.Need-part-agreeing-end
 part-agreeing-end c = let r = reach (c .before) in omega arith
 
+mul-agreeing : tie.Need-mul-agreeing
+mul-agreeing c = omega (arith, first-small (opened (c .before)))
+
 agreeing-requires : tie.Need-agreeing-requires
 agreeing-requires c κs =
     let reached = c .before .before in
@@ -135,7 +144,7 @@ returns-2 : tie.Need-returns-2
 returns-2 c =
     let widened = c .before in
     let compare = widened .before .before .before in
-    let made = filled (held (sized (compare .before .before .before))) in
+    let made = filled (held (opened (compare .before .before .before))) in
     let start = begun made in
     answered refl (rows-due (start .pre .0) (made .fill .ensures) (start .args .span))
     (differs _ (says compare .differs (omega arith) refl (ap (_+ later (compare .before .before .before)) (widened .wide .ensures .0)) refl))
@@ -143,14 +152,14 @@ returns-2 c =
 returns-3 : tie.Need-returns-3
 returns-3 c =
     let compare = c .before .before in
-    let made = filled (held (sized (compare .before .before .before))) in
+    let made = filled (held (opened (compare .before .before .before))) in
     let start = begun made in
     answered refl (rows-due (start .pre .0) (made .fill .ensures) (start .args .span)) (differs _ (says compare .goes-on (omega arith) (omega arith) refl refl refl))
 
 returns-4 : tie.Need-returns-4
 returns-4 c =
     let compare = c .before .before in
-    let made = filled (held (sized (compare .before .before .before))) in
+    let made = filled (held (opened (compare .before .before .before))) in
     let start = begun made in
     answered refl (rows-due (start .pre .0) (made .fill .ensures) (start .args .span)) (clean (says compare .clean (omega arith) (omega arith)))
 
@@ -160,25 +169,25 @@ shared-slice-read-wide c =
     let r = reach (compare .before .before .before) in
     omega (arith, compare .agreeing .ensures .agreed .inside, r .before)
 
-shared-slice-read-t39 : tie.Need-shared-slice-read-t39
-shared-slice-read-t39 c =
+shared-slice-read-t41 : tie.Need-shared-slice-read-t41
+shared-slice-read-t41 c =
     let compare = c .before .before .before .before in
     let r = reach (compare .before .before .before) in
     omega (arith, compare .agreeing .ensures .agreed .inside, r .before)
 
-add-t33 : tie.Need-add-t33
-add-t33 c =
+add-t35 : tie.Need-add-t35
+add-t35 c =
     let compare = c .before .before .before in
     omega (arith, c .wide .ensures .1, later-small (compare .before .before .before .before))
 
-cast-t27 : tie.Need-cast-t27
-cast-t27 c = omega (arith, full-small (sized (c .before .before .before .before)))
+cast-t29 : tie.Need-cast-t29
+cast-t29 c = omega (arith, full-small (opened (c .before .before .before .before)))
 
-cast-t42 : tie.Need-cast-t42
-cast-t42 c = omega (arith, full-small (sized (c .before .before .before .before .before)))
+cast-t44 : tie.Need-cast-t44
+cast-t44 c = omega (arith, full-small (opened (c .before .before .before .before .before)))
 
-cast-t34 : tie.Need-cast-t34
-cast-t34 c =
+cast-t36 : tie.Need-cast-t36
+cast-t36 c =
     let compare = c .before .before .before in
     omega (arith, says compare .fits (omega arith), c .wide .ensures .0)
 
@@ -191,8 +200,6 @@ hold-accepted-spec =
     (λ c. search needs)
     returns
     (λ c. search needs)
-    (λ c κs. search needs)
-    (λ c. search needs)
     mul-all
     (λ c κs. search needs)
     (λ c κs. search needs)
@@ -200,24 +207,24 @@ hold-accepted-spec =
     (λ c κs. search needs)
     sub-agreeing
     slice-aggregate-agreeing
-    (λ c. search needs)
+    mul-agreeing
     sub-agreeing-2
     part-agreeing-start
     part-agreeing-end
     agreeing-requires
     (λ c. search needs)
-    cast-t27
+    cast-t29
     (λ c. search needs)
     (λ c. search needs)
     shared-slice-read-wide
     (λ c κs. search needs)
-    add-t33
-    cast-t34
+    add-t35
+    cast-t36
     (λ c. search needs)
     (λ c. search needs)
     (λ c. search needs)
-    shared-slice-read-t39
+    shared-slice-read-t41
     returns-2
-    cast-t42
+    cast-t44
     returns-3
     returns-4)

@@ -1,7 +1,7 @@
 -- The rows before i are in the log, up to `at`. Row i is written apart and compared with what follows there: it agrees wholly, and the log is right up to
 -- the next row, or it differs, and so the log does.
 use Prim.Native.Nat.{ℕ, _+_, _-_, _%_, _<_, _≤_}
-use mathlib.Core.Path.{_≡_, refl, sym, ap, subst, _∙_}
+use mathlib.Core.Path.{_≡_, refl, sym, ap, _∙_}
 use mathlib.Core.List.{List}
 use native.Mathlib.Omega.{arith}
 use lib.ListN.{length, getD, take, drop, length-append, length-drop, length-replicate, List·getD-append}
@@ -153,7 +153,8 @@ returns-2 c =
     let a = begun looped .args in
     let g : ℕ → List ℕ = rowWords (a .p .now) (a .table .now) in
     let all : looped .loop .i ≡ rowCount (a .p .now) = omega arith in
-    with-all (same-all (subst (Same (run (rowCount (a .p .now)) g) (a .log .now)) (inv .2 ∙ ap (λ (k : ℕ). length (run k g)) all) (inv .3)))
+    let count : looped .loop .at ≡ length (run (rowCount (a .p .now)) g) = inv .2 ∙ ap (λ (k : ℕ). length (run k g)) all in
+    with-all _ count (same-all count (inv .3))
 
 pub hold-rows-spec : {M : Type 1} → statement M
 hold-rows-spec =
