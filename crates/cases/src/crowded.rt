@@ -1,19 +1,10 @@
 // Messages that are all due in the first row, in one column less than there are messages: document 003's mix of periods, offset 0, deadline one cycle.
 // A search without prices tries nearly every order of the columns before it says so.
-use crate::build;
-use crate::show;
-use rules::words::MOST_WORDS;
-
-// Plans a problem: refused with the number, or the plan.
-fn planned(title: &[u8], header: &[u8], columns: &[u8], messages: &[u8], number: u32, plan: &[u8]) {
-    let mut p = [0u32; MOST_WORDS];
-    let n = build::problem(header, columns, messages, &mut p);
-    show::plan(title, show::front(&p, n), number, plan);
-}
+use trial::show;
 
 // Nine messages, eight columns.
 fn nine() {
-    planned(
+    show::plan_text(
         b"nine messages in eight columns",
         b"8 1278 78 240 32 8 9",
         b"78 150  228 150  378 150  528 150  678 150  828 150  978 150  1128 150",
@@ -33,7 +24,7 @@ fn nine() {
 
 // Ten messages, nine columns.
 fn ten() {
-    planned(
+    show::plan_text(
         b"ten messages in nine columns",
         b"8 1428 78 240 32 9 10",
         b"78 150  228 150  378 150  528 150  678 150  828 150  978 150  1128 150
@@ -55,7 +46,7 @@ fn ten() {
 
 // Sixteen messages, fifteen columns.
 fn sixteen() {
-    planned(
+    show::plan_text(
         b"sixteen messages in fifteen columns",
         b"8 2328 78 240 32 15 16",
         b"78 150  228 150  378 150  528 150  678 150  828 150  978 150  1128 150
@@ -83,7 +74,7 @@ fn sixteen() {
 
 // With a column for each they all go into the first row.
 fn enough() {
-    planned(
+    show::plan_text(
         b"sixteen messages in sixteen columns",
         b"8 2478 78 240 32 16 16",
         b"78 150  228 150  378 150  528 150  678 150  828 150  978 150  1128 150

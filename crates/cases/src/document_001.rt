@@ -1,7 +1,7 @@
 // Document 001: the 30 messages of its hard class, FL2 to RR31, in 32 rows of 800 with columns at 200, 400 and 600.
-use crate::build;
-use crate::show;
 use rules::words::MOST_WORDS;
+use trial::build;
+use trial::show;
 ghost use Rattle.io.specs.Counts.{Counts};
 
 // Where the first message's deadline stands.

@@ -1,7 +1,7 @@
 // Document 003: 16 messages of 8 bytes in 8 rows of 2500, and the matrices of its figures 2 to 4, whose windows 1 to 16 are the columns.
-use crate::build;
-use crate::show;
 use rules::words::MOST_WORDS;
+use trial::build;
+use trial::show;
 ghost use Rattle.io.specs.Counts.{Counts};
 
 // Identifiers 51, 52, 53, 101 to 105, 201 to 204 and 401 to 404, hexadecimal, the reference F0; node 0 sends all to node 1.
@@ -32,17 +32,12 @@ fn example(words: &mut [u32]) -> usize
     )
 }
 
-// A matrix checked, with its losses.
-fn matrix(title: &[u8], problem: &[u32], proposal: &[u8], losses: &[u8]) {
-    show::check(title, problem, proposal, 0, 0);
-    show::losses(title, problem, proposal, losses);
-}
-
 // The least plan.
 fn planned(problem: &[u32]) {
-    let plan = b"0 0  1 0  2 0  3 0  3 1  4 0  4 1  5 0  5 1  5 3  6 0  6 1  6 2  6 3  6 6  6 7";
+    let plan: &[u8] =
+        b"0 0  1 0  2 0  3 0  3 1  4 0  4 1  5 0  5 1  5 3  6 0  6 1  6 2  6 3  6 6  6 7";
     show::plan(b"the example", problem, 0, plan);
-    matrix(
+    show::accepted(
         b"the example and its plan",
         problem,
         plan,
@@ -72,19 +67,19 @@ fn lists(problem: &[u32], plan: &[u8]) {
 
 // The matrices as the figures have them.
 fn figures(problem: &[u32]) {
-    matrix(
+    show::accepted(
         b"figure 2",
         problem,
         b"0 0  1 0  2 0  3 0  4 0  5 0  6 0  7 0  8 0  9 0  10 0  11 0  12 0  13 0  14 0  15 0",
         b"624 7560 827 10989 0",
     );
-    matrix(
+    show::accepted(
         b"figure 3",
         problem,
         b"0 0  1 0  5 0  6 0  10 0  11 0  15 0  6 1  10 1  11 1  15 1  10 3  11 3  15 3  11 7  15 7",
         b"624 7560 1016 10800 0",
     );
-    matrix(
+    show::accepted(
         b"figure 4",
         problem,
         b"1 0  3 0  5 0  7 0  9 0  11 0  13 0  7 1  9 1  11 1  13 1  9 3  11 3  13 3  11 7  13 7",
@@ -97,7 +92,8 @@ pub fn run() {
     paper::text(b"Document 003\n");
     let mut p = [0u32; MOST_WORDS];
     let n = example(&mut p);
-    show::round_trip(b"the example", &p[..n]);
-    planned(&p[..n]);
-    figures(&p[..n]);
+    let problem = &p[..n];
+    show::round_trip(b"the example", problem);
+    planned(problem);
+    figures(problem);
 }

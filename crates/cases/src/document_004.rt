@@ -1,5 +1,5 @@
 // Document 004: the messages of its table 1, of 8 bytes at 25 kbit/s, where a millisecond is 25 bit times.
-use crate::show;
+use trial::show;
 
 // Set B; the first six are set A. The last of a set is blocked by none, so Op. 2 is sooner done in set A than the document's 37.8 ms.
 pub fn run() {

@@ -1,7 +1,7 @@
 // Document 01: the plans worked by hand, and the slips.
-use crate::build;
-use crate::show;
 use rules::words::MOST_WORDS;
+use trial::build;
+use trial::show;
 ghost use Rattle.io.specs.Counts.{Counts};
 
 // Where message 32's deadline stands in T1.
@@ -47,11 +47,11 @@ fn lengths() {
 }
 
 // T1's lists, word by word.
-fn t1_lists(problem: &[u32]) {
+fn t1_lists(problem: &[u32], plan: &[u8]) {
     show::lists(
         b"T1 and its plan",
         problem,
-        b"0 0 1 1 1 0",
+        plan,
         104,
         b"4 4 1 1 1 1 1 1 1 1 1 1 1 1 1 1
           1 0 0 1  65552 65 0 1  131120 200 0 2  131104 200 1 2
@@ -65,17 +65,13 @@ fn t1_lists(problem: &[u32]) {
 fn first() {
     let mut p = [0u32; MOST_WORDS];
     let n = t1(&mut p);
-    show::round_trip(b"T1", &p[..n]);
-    show::plan(b"T1", &p[..n], 0, b"0 0 1 1 1 0");
-    show::check(b"T1 and its plan", &p[..n], b"0 0 1 1 1 0", 0, 0);
-    show::losses(
-        b"T1 and its plan",
-        &p[..n],
-        b"0 0 1 1 1 0",
-        b"130 430 40 200 0",
-    );
-    t1_lists(&p[..n]);
-    show::check(b"T1 and 0 0 1 1 1 1", &p[..n], b"0 0 1 1 1 1", 13, 2);
+    let problem = &p[..n];
+    let plan: &[u8] = b"0 0 1 1 1 0";
+    show::round_trip(b"T1", problem);
+    show::plan(b"T1", problem, 0, plan);
+    show::accepted(b"T1 and its plan", problem, plan, b"130 430 40 200 0");
+    t1_lists(problem, plan);
+    show::check(b"T1 and 0 0 1 1 1 1", problem, b"0 0 1 1 1 1", 13, 2);
 }
 
 // Message 32 can be sent by 265 after its release and no earlier.
@@ -107,15 +103,16 @@ fn no_messages() {
         b"",
         &mut p,
     );
-    show::check(b"no messages and the empty proposal", &p[..n], b"", 0, 0);
+    let problem = &p[..n];
+    show::check(b"no messages and the empty proposal", problem, b"", 0, 0);
     show::check(
         b"no messages and a proposal of two words",
-        &p[..n],
+        problem,
         b"0 0",
         9,
         0,
     );
-    show::plan(b"no messages", &p[..n], 0, b"");
+    show::plan(b"no messages", problem, 0, b"");
 }
 
 // The events of the table, and a deadline that is one short of the response.
@@ -136,17 +133,12 @@ fn events() {
 
 // First fit places the message of 4 bytes in the one column that has room for the other.
 fn first_fit() {
-    let mut p = [0u32; MOST_WORDS];
-    let n = build::problem(
+    show::plan_text(
+        b"4 bytes, then 8 bytes, on T1's grid",
         b"2 400 65 1 32 3 2",
         b"65 135  200 100  300 100",
         b"16 0 4 2 400 0 400
           32 0 8 2 400 0 400",
-        &mut p,
-    );
-    show::plan(
-        b"4 bytes, then 8 bytes, on T1's grid",
-        &p[..n],
         0,
         b"1 0 0 0",
     );
@@ -182,16 +174,17 @@ fn beyond_the_first_cycle() {
         b"16 0 1 2 400 350 100",
         &mut p,
     );
+    let problem = &p[..n];
     show::check(
         b"released at 350, due at 450, sent at 200",
-        &p[..n],
+        problem,
         b"0 0",
         12,
         0,
     );
     show::plan(
         b"released at 350, due at 450, one column at 200",
-        &p[..n],
+        problem,
         14,
         b"",
     );

@@ -1,8 +1,8 @@
 // Document 02, request a): logs held against T1 and its plan, and the list that is due.
-use crate::build;
 use crate::document_01;
-use crate::show;
 use rules::words::MOST_WORDS;
+use trial::build;
+use trial::show;
 ghost use Prim.Native.Nat.{_<_, _≤_};
 
 // The words of T1's log over one matrix cycle, and over 100.
@@ -227,12 +227,14 @@ pub fn run() {
     paper::text(b"Document 02, a log held against the plan\n");
     let mut p = [0u32; MOST_WORDS];
     let n = document_01::t1(&mut p);
-    let mut log = [0u32; HUNDRED];
-    t1_log(&mut log);
-    clean(&p[..n], &log);
-    differing(&p[..n]);
-    of_wrong_length(&p[..n]);
-    refused(&p[..n], &log);
-    lists(&p[..n], &log);
-    lists_refused(&p[..n]);
+    let problem = &p[..n];
+    let mut l = [0u32; HUNDRED];
+    t1_log(&mut l);
+    let log: &[u32] = &l;
+    clean(problem, log);
+    differing(problem);
+    of_wrong_length(problem);
+    refused(problem, log);
+    lists(problem, log);
+    lists_refused(problem);
 }

@@ -1,7 +1,7 @@
 // The largest matrix, full, and a bus that has more to send than it can.
-use crate::build;
-use crate::show;
 use rules::words::MOST_WORDS;
+use trial::build;
+use trial::show;
 ghost use Prim.Native.Nat.{_<_};
 
 // The most columns that a problem has.
@@ -108,14 +108,7 @@ fn full() {
 
 // Two messages fill each column.
 fn full_matrix(problem: &[u32], proposal: &[u8]) {
-    show::check(
-        b"the same with all 2048 cells full",
-        problem,
-        proposal,
-        0,
-        0,
-    );
-    show::losses(
+    show::accepted(
         b"the same with all 2048 cells full",
         problem,
         proposal,

@@ -1,5 +1,4 @@
 // The cases that the documents work by hand, the limits and crowded problems, each run and compared.
-mod build;
 mod crowded;
 mod document_000;
 mod document_001;
@@ -8,7 +7,6 @@ mod document_004;
 mod document_01;
 mod document_02;
 mod limits;
-mod show;
 
 // Document by document, and then our own.
 fn main() {

@@ -2,8 +2,8 @@
 use Prim.Native.Nat.{_≤_, _-_}
 use lib.ListN.{length}
 use borrow.Author.Needs.{needs}
-use Rattle.cases.proofs.show.is_same.Statement.{statement}
-use Rattle.cases.proofs.show.is_same.Tie as tie
+use Rattle.trial.proofs.show.is_same.Statement.{statement}
+use Rattle.trial.proofs.show.is_same.Tie as tie
 
 abbrev Inv-loop : tie.InvT-loop
 Inv-loop a b i₀ i = i ≤ length a

@@ -3,8 +3,8 @@ use mathlib.Core.Path.{sym}
 use native.Mathlib.Omega.{arith}
 use lib.Seq.{length-take-le}
 use borrow.Author.Needs.{needs}
-use Rattle.cases.proofs.show.write_due.Statement.{statement}
-use Rattle.cases.proofs.show.write_due.Tie as tie
+use Rattle.trial.proofs.show.write_due.Statement.{statement}
+use Rattle.trial.proofs.show.write_due.Tie as tie
 
 pub write-due-spec : {M : Type 1} → statement M
 write-due-spec =

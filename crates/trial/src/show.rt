@@ -17,10 +17,10 @@ ghost use Prim.Native.Nat.{_≤_};
 ghost use lib.ListN.{length};
 ghost use Rattle.io.specs.Counts.{Counts};
 
-// The most words that a case here wants.
+// The most words that a case wants as text.
 const WANTED_WORDS: usize = 256;
 
-// The words that are lent for a list that is due, which is more than a case here wants, and what stands in each before.
+// The words that are lent for a list that is due, which is more than a case wants, and what stands in each before.
 pub const LENT_WORDS: usize = 1208;
 
 const BEFORE: u32 = 7;
@@ -140,13 +140,27 @@ pub fn plan(title: &[u8], problem: &[u32], number: u32, wanted: &[u8]) {
     }
 }
 
+// The same of a problem that stands as text.
+pub fn plan_text(
+    title: &[u8],
+    header: &[u8],
+    columns: &[u8],
+    messages: &[u8],
+    number: u32,
+    wanted: &[u8],
+) {
+    let mut p = [0u32; MOST_WORDS];
+    let n = build::problem(header, columns, messages, &mut p);
+    plan(title, &p[..n], number, wanted);
+}
+
 // The figures as words.
 fn figures(t: BusTime) -> [u32; 5] {
     [t.reference, t.used, t.in_window, t.empty, t.gaps]
 }
 
 // The losses of an acceptable proposal.
-pub fn losses(title: &[u8], problem: &[u32], proposal: &[u8], wanted: &[u8]) {
+fn losses(title: &[u8], problem: &[u32], proposal: &[u8], wanted: &[u8]) {
     let mut file = [0u8; problem::MOST_BYTES];
     let n = file_of(problem, &mut file);
     let mut w = [0u32; rules::words::MOST_PROPOSAL];
@@ -157,6 +171,12 @@ pub fn losses(title: &[u8], problem: &[u32], proposal: &[u8], wanted: &[u8]) {
         Lost::Figures(t) => end_words(&figures(t), 0, wanted),
         Lost::Refused(q) => end_refused(q, 0, 0),
     }
+}
+
+// An acceptable proposal: it is accepted, and its losses are those that the document wants.
+pub fn accepted(title: &[u8], problem: &[u32], proposal: &[u8], wanted: &[u8]) {
+    check(title, problem, proposal, 0, 0);
+    losses(title, problem, proposal, wanted);
 }
 
 // Shows trigger lists by how many words they are and their 16 counts, where the document wants so many words that start with those of a text.

@@ -2,8 +2,8 @@
 use native.Mathlib.Omega.{arith}
 use borrow.Author.Needs.{needs}
 use Rattle.io.proofs.Counting.{counts}
-use Rattle.cases.proofs.show.file_of.Statement.{statement}
-use Rattle.cases.proofs.show.file_of.Tie as tie
+use Rattle.trial.proofs.show.file_of.Statement.{statement}
+use Rattle.trial.proofs.show.file_of.Tie as tie
 
 pub file-of-spec : {M : Type 1} → statement M
 file-of-spec =

@@ -1,4 +1,4 @@
-// Words from word lists, so that problems and proposals stand here as a document has them.
+// Words from word lists, so that problems and proposals stand in a case as the document has them.
 ghost use Prim.Native.Nat.{_≤_};
 ghost use lib.ListN.{length};
 ghost use Rattle.io.specs.Counts.{Counts};

@@ -5,8 +5,8 @@ use native.Mathlib.Omega.{arith}
 use borrow.Author.Tests.{ltb-true}
 use lib.ListN.{length, length-set}
 use borrow.Author.Needs.{needs}
-use Rattle.cases.proofs.build.put.Statement.{statement}
-use Rattle.cases.proofs.build.put.Tie as tie
+use Rattle.trial.proofs.build.put.Statement.{statement}
+use Rattle.trial.proofs.build.put.Tie as tie
 
 abbrev Inv-loop : tie.InvT-loop
 Inv-loop part at words₀ i₀ to₀ words i to = (i ≤ length part) × (length words ≡ length words₀)
