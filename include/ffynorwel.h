@@ -6,8 +6,8 @@
 
    Each call stores its answer in eight words:
      answer[0]      number: 0 is done, any other a refusal
-     answer[1]      place: the column, message, node or event that a refusal speaks of, from 0; else 0
-     answer[2]      second place: 0
+     answer[1]      place: the header's byte, the column, message, node or event that a refusal speaks of, from 0; else 0
+     answer[2]      second place: with 13 the lowest earlier message that is met; else 0
      answer[3..7]   figures: as said at each call; all that it does not speak of are 0, and all are 0 with a refusal
    A refused call writes to no other buffer, and a longer buffer keeps what is beyond the output.
 
@@ -16,7 +16,9 @@
      1      the file or the problem's words have the wrong length                       0
      2      the file does not begin with the mark TSM                                   0
      3      the file's version is not 1                                                 0
-     4      a number of the header is out of its range                                  0
+     4      a number of the header is out of its range                                  the byte at which a file has the first such:
+                                                                                        R 5, B 6, f 8, reference identifier 10,
+                                                                                        L 12, K 13, M 14, the 0 behind them 15
      5      a column breaks its rule                                                    the first such column
      6      a message's identifier, node, data bytes or receivers are wrong             the message
      7      a message's period, offset or deadline is wrong                             the message

@@ -52,14 +52,13 @@ fn hard(words: &mut [u32]) -> usize
 }
 
 // The column and the row of each message in table 4.2.
-fn table_4_2(title: &[u8], problem: &[u32], number: u32, place: u32) {
+fn table_4_2(title: &[u8], problem: &[u32], wanted: [u32; 3]) {
     show::check(
         title,
         problem,
         b"0 1  1 1  2 1  0 2  1 2  0 3  0 5  1 5  2 5  0 6  1 7  2 7  0 8  1 8  0 14
       1 14  2 14  0 15  0 19  1 19  2 19  0 20  1 21  2 21  0 22  1 22  1 26  2 26  0 27  1 27",
-        number,
-        place,
+        wanted,
     );
 }
 
@@ -68,19 +67,17 @@ pub fn run() {
     paper::text(b"Document 001\n");
     let mut p = [0u32; MOST_WORDS];
     let n = hard(&mut p);
-    table_4_2(b"table 4.2, all due 135 after release", &p[..n], 0, 0);
+    table_4_2(b"table 4.2, all due 135 after release", &p[..n], show::NONE);
     build::set(&mut p, LAST_DEADLINE, 134);
     table_4_2(
         b"table 4.2, the last due 134 after release",
         show::front(&p, n),
-        12,
-        29,
+        [12, 29, 0],
     );
     build::set(&mut p, FIRST_DEADLINE, 134);
     table_4_2(
         b"table 4.2, the first due 134 after release",
         show::front(&p, n),
-        12,
-        0,
+        [12, 0, 0],
     );
 }

@@ -7,11 +7,13 @@ mod document_004;
 mod document_01;
 mod document_02;
 mod limits;
+mod places;
 
 // Document by document, and then our own.
 fn main() {
     document_01::run();
     document_02::run();
+    places::run();
     document_000::run();
     document_001::run();
     document_003::run();

@@ -21,9 +21,9 @@ use Rattle.planner.specs.Answer as ofPlanner
 use Rattle.response.specs.declared.Responded.{Responded}
 use Rattle.response.specs.Answer as ofResponse
 
--- number, place, second place, which no answer has yet, and five figures
+-- number, place, second place and five figures
 abbrev pub eight : Paper → ℕ → ℕ → ℕ → ℕ → ℕ → List ℕ
-eight p a b c d e = p .number ∷ p .place ∷ 0 ∷ a ∷ b ∷ c ∷ d ∷ e ∷ []
+eight p a b c d e = p .number ∷ p .place ∷ p .second ∷ a ∷ b ∷ c ∷ d ∷ e ∷ []
 
 -- one figure, and four that are 0
 abbrev pub counted : Paper → ℕ → List ℕ

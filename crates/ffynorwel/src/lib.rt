@@ -24,11 +24,11 @@ ghost use Rattle.response.specs.Promise.{Responding};
 ghost use Rattle.ffynorwel.specs.Eight.{eight, counted, readWords, writtenWords, checkedWords, lostWords, listedWords, heldWords, dueWords, plannedWords, respondedWords};
 ghost use Rattle.ffynorwel.specs.Handed.{Handed};
 
-// Stores number, place and figures; no answer has a second place yet.
+// Stores number, place, second place and figures.
 fn store(answer: &mut [u32; 8], paper: Paper, a: u32, b: u32, c: u32, d: u32, e: u32)
     ensures { λ _. ⌜ now (answer .exit) ≡ eight paper a b c d e ⌝ }
 {
-    *answer = [paper.number, paper.place, 0, a, b, c, d, e];
+    *answer = [paper.number, paper.place, paper.second, a, b, c, d, e];
 }
 
 // Stores a refusal.
@@ -47,6 +47,7 @@ fn finish(answer: &mut [u32; 8], a: u32, b: u32, c: u32, d: u32, e: u32)
         Paper {
             number: 0,
             place: 0,
+            second: 0,
         },
         a,
         b,

@@ -15,7 +15,7 @@ fn explain(reason: Refusal) {
         Refusal::Length => line(b"the length does not fit the numbers of columns and messages"),
         Refusal::Mark => line(b"the file does not begin with the mark TSM"),
         Refusal::Version => line(b"the version of the file is not 1"),
-        Refusal::Header => line(b"a number of the header is out of range"),
+        Refusal::Header(_) => line(b"a number of the header is out of range"),
         Refusal::Column(c) => fault_of(
             b"column ",
             c,
@@ -36,7 +36,7 @@ fn explain(reason: Refusal) {
         ),
         Refusal::Width(j) => fault_of(b"message ", j, b" is longer than its window"),
         Refusal::Late(j) => fault_of(b"message ", j, b" is late for its deadline"),
-        Refusal::Meeting(j) => fault_of(b"message ", j, b" meets an earlier message"),
+        Refusal::Meeting(j, _) => fault_of(b"message ", j, b" meets an earlier message"),
         Refusal::NoPlan => line(b"no acceptable proposal exists"),
         Refusal::TooMany => line(b"the planner takes at most 16 messages"),
         Refusal::Room => line(b"the output is longer than its room"),

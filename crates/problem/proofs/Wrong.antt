@@ -11,6 +11,7 @@ use Rattle.rules.specs.declared.Fault.{Fault}
 use Rattle.rules.specs.declared.Fault.the-variants.{Clear, Bad}
 use Rattle.rules.specs.declared.Refusal.{Refusal}
 use Rattle.rules.specs.declared.Refusal.the-variants.{Length, Mark, Version, Header}
+use Rattle.rules.specs.Offsets.{lastByte}
 use Rattle.rules.specs.Refusal.{guard}
 use Rattle.rules.specs.Problem.{wordsFor, wordCount, columns, messages, Header as HeaderKept, WellFormed}
 use Rattle.rules.specs.Rules.{headerFault, wordsFault, problemFault}
@@ -83,20 +84,20 @@ module _ (f : List ℕ) where
         head-wrong e = rw (le-ltb (length f) headBytes long, mark, eq-eqb (two f 3) 1 version, ← tested, e)
 
         module _ (right : x ≡ Clear) where
-          pub head-last : (getD f 15 0 ≡ 0 → ⊥) → Bad Header ≡ headFault f
+          pub head-last : (getD f lastByte 0 ≡ 0 → ⊥) → Bad (Header lastByte) ≡ headFault f
           unfolding headFault
-          head-last n = rw (le-ltb (length f) headBytes long, mark, eq-eqb (two f 3) 1 version, ← tested, right, ne-eqb (getD f 15 0) 0 n)
+          head-last n = rw (le-ltb (length f) headBytes long, mark, eq-eqb (two f 3) 1 version, ← tested, right, ne-eqb (getD f lastByte 0) 0 n)
 
-          module _ (last : getD f 15 0 ≡ 0) where
+          module _ (last : getD f lastByte 0 ≡ 0) where
             pub head-unlike : (length f ≡ bytesFor (columnsIn f) (messagesIn f) → ⊥) → Bad Length ≡ headFault f
             unfolding headFault wordsOf
             head-unlike n =
-                rw (le-ltb (length f) headBytes long, mark, eq-eqb (two f 3) 1 version, ← tested, right, eq-eqb (getD f 15 0) 0 last, ne-eqb (length f) (bytesFor (columnsIn f) (messagesIn f)) n)
+                rw (le-ltb (length f) headBytes long, mark, eq-eqb (two f 3) 1 version, ← tested, right, eq-eqb (getD f lastByte 0) 0 last, ne-eqb (length f) (bytesFor (columnsIn f) (messagesIn f)) n)
 
             pub head-clear : length f ≡ bytesFor (columnsIn f) (messagesIn f) → Clear ≡ headFault f
             unfolding headFault wordsOf
             head-clear e =
-                rw (le-ltb (length f) headBytes long, mark, eq-eqb (two f 3) 1 version, ← tested, right, eq-eqb (getD f 15 0) 0 last, eq-eqb (length f) (bytesFor (columnsIn f) (messagesIn f)) e)
+                rw (le-ltb (length f) headBytes long, mark, eq-eqb (two f 3) 1 version, ← tested, right, eq-eqb (getD f lastByte 0) 0 last, eq-eqb (length f) (bytesFor (columnsIn f) (messagesIn f)) e)
 
 -- what a head with no fault says of the file
 pub record Head (f : List ℕ) : Type 0 where
@@ -104,7 +105,7 @@ pub record Head (f : List ℕ) : Type 0 where
   pub mark : marked f ≡ true
   pub version : two f 3 ≡ 1
   pub header : HeaderKept (wordsOf f)
-  pub last : getD f 15 0 ≡ 0
+  pub last : getD f lastByte 0 ≡ 0
   pub bytes : length f ≡ bytesFor (columnsIn f) (messagesIn f)
   pub columns-most : columnsIn f ≤ 32
   pub messages-most : messagesIn f ≤ 64
@@ -116,7 +117,7 @@ head-right f e =
     let b = clear-both (guard (not (marked f)) Mark) _ (a .1) in
     let d = clear-both (guard (not (eqb (two f 3) 1)) Version) _ (b .1) in
     let h = clear-both (headerFault (wordsOf f)) _ (d .1) in
-    let z = clear-both (guard (not (eqb (getD f 15 0) 0)) Header) _ (h .1) in
+    let z = clear-both (guard (not (eqb (getD f lastByte 0) 0)) (Header lastByte)) _ (h .1) in
     let r = header-kept (wordsOf f) .0 (h .0) in
     record {
       long = ltb-false _ _ (clear-guard _ _ (a .0));

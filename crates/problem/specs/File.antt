@@ -3,6 +3,7 @@ use Prim.Native.Nat.{ℕ, _+_, _*_, _/_, _%_}
 use mathlib.Core.List.{List, [], _∷_, _++_}
 use lib.ListN.{getD, drop}
 use Rattle.basics.specs.Runs.{run, piece}
+use Rattle.rules.specs.Offsets.{rowsByte, cycleByte, refLenByte, refIdByte, limitByte, columnsByte, messagesByte}
 use Rattle.rules.specs.Problem.{headerWords, columnAt, rows, cycle, refLen, refId, limit, columns, messages}
 
 -- ---- from bytes to words
@@ -15,7 +16,8 @@ four l i = two l i * 65536 + two l (i + 2)
 
 -- rows, cycle, reference window, reference identifier, trigger limit, columns, messages
 abbrev pub headerOf : List ℕ → List ℕ
-headerOf f = getD f 5 0 ∷ two f 6 ∷ two f 8 ∷ two f 10 ∷ getD f 12 0 ∷ getD f 13 0 ∷ getD f 14 0 ∷ []
+headerOf f =
+    getD f rowsByte 0 ∷ two f cycleByte ∷ two f refLenByte ∷ two f refIdByte ∷ getD f limitByte 0 ∷ getD f columnsByte 0 ∷ getD f messagesByte 0 ∷ []
 
 -- start, width
 abbrev pub columnOf : List ℕ → List ℕ
@@ -27,10 +29,10 @@ messageOf r = two r 0 ∷ getD r 2 0 ∷ getD r 3 0 ∷ two r 4 ∷ four r 6 ∷
 
 -- how many columns and messages a file says that it has
 abbrev pub columnsIn : List ℕ → ℕ
-columnsIn f = getD f 13 0
+columnsIn f = getD f columnsByte 0
 
 abbrev pub messagesIn : List ℕ → ℕ
-messagesIn f = getD f 14 0
+messagesIn f = getD f messagesByte 0
 
 -- a file's records stand behind a header of 16 bytes: 4 for column c, then, behind k columns, 18 for each message
 abbrev pub headBytes : ℕ

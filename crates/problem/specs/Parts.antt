@@ -1,9 +1,18 @@
--- What the functions that test words ask of them.
+-- What the functions that test words ask of them and say.
 use Prim.Native.Nat.{ℕ, _+_, _<_, _≤_}
 use mathlib.Core.Path.{_≡_}
+use mathlib.Core.Bool.{not}
 use mathlib.Core.List.{List}
+use lib.Dec.{eqb}
 use lib.ListN.{length}
+use Rattle.rules.specs.declared.Fault.{Fault}
+use Rattle.rules.specs.declared.Refusal.the-variants.{Header}
+use Rattle.rules.specs.Refusal.{guard}
 use Rattle.rules.specs.Problem.{columnAt, messageAt, wordsFor, columns, messages, earliest}
+
+-- the fault of the header's number at byte b, where 0 is none
+unfoldable pub headerAt : ℕ → Fault
+headerAt b = guard (not (eqb b 0)) (Header b)
 
 -- p has the words of k columns and m messages, as its header says
 pub record Counted (p : List ℕ) (k m : ℕ) : Type 0 where

@@ -6,6 +6,7 @@ use lib.Dec.{ltb, eqb}
 use lib.ListN.{length, getD}
 use Rattle.rules.specs.declared.Fault.{Fault}
 use Rattle.rules.specs.declared.Refusal.the-variants.{Length, Mark, Version, Header}
+use Rattle.rules.specs.Offsets.{lastByte}
 use Rattle.rules.specs.Refusal.{guard, _⊕_}
 use Rattle.rules.specs.Rules.{headerFault, wordsFault}
 use Rattle.problem.specs.File.{two, headBytes, wordsOf, byteCount}
@@ -20,7 +21,7 @@ headFault f =
     ⊕ guard (not (marked f)) Mark
     ⊕ guard (not (eqb (two f 3) 1)) Version
     ⊕ headerFault (wordsOf f)
-    ⊕ guard (not (eqb (getD f 15 0) 0)) Header
+    ⊕ guard (not (eqb (getD f lastByte 0) 0)) (Header lastByte)
     ⊕ guard (not (eqb (length f) (byteCount (wordsOf f)))) Length
 
 unfoldable pub fileFault : List ℕ → Fault

@@ -12,12 +12,13 @@ ghost use lib.Dec.{eqb};
 ghost use lib.ListN.{length};
 ghost use Rattle.basics.specs.Bits.{bit};
 ghost use Rattle.basics.specs.Sums.{only};
-ghost use Rattle.rules.specs.Refusal.{firstFault};
+ghost use Rattle.rules.specs.Refusal.{guard, _⊕_, firstFault};
+ghost use Rattle.rules.specs.declared.Refusal.the-variants.{Header};
 ghost use Rattle.rules.specs.Problem.{headerWords, start, width, field, nodes, triggers};
 ghost use Rattle.rules.specs.Rules.{isRowCount, headerFault, columnWrong, repeated, identityWrong, onGrid, timingWrong};
 ghost use Rattle.rules.specs.Rules.{columnFault, messageFault, nodeFault, wordsFault};
 ghost use Rattle.problem.specs.File.{bytesFor};
-ghost use Rattle.problem.specs.Parts.{Counted, HasColumn, Reached, HasMessage};
+ghost use Rattle.problem.specs.Parts.{headerAt, Counted, HasColumn, Reached, HasMessage};
 
 // A file's header, a column's record and a message's record, in bytes.
 pub const HEAD_BYTES: usize = 16;
@@ -65,33 +66,53 @@ fn is_row_count(r: u32) -> bool
     (r == 1) | (r == 2) | (r == 4) | (r == 8) | (r == 16) | (r == 32) | (r == 64)
 }
 
+// The byte of a header's number that a test finds wrong; 0 where it does not.
+fn wrong_at(test: bool, byte: usize) -> u32
+    requires { ⌜ (0 < byte) × (byte < 16) ⌝ }
+    ensures { λ r. ⌜ headerAt r ≡ guard test (Header byte) ⌝ }
+{
+    match test {
+        true => byte as u32,
+        false => 0,
+    }
+}
+
+// The first of two bytes, where 0 is none.
+fn first(a: u32, b: u32) -> u32
+    ensures { λ r. ⌜ headerAt r ≡ headerAt a ⊕ headerAt b ⌝ }
+{
+    if a == 0 {
+        return b;
+    }
+    a
+}
+
+// The fault of the header's number at a byte, where 0 is none.
+fn header_at(byte: u32) -> Fault
+    ensures { λ f. ⌜ f ≡ headerAt byte ⌝ }
+{
+    if byte == 0 {
+        return Fault::Clear;
+    }
+    Fault::Bad(Refusal::Header(byte))
+}
+
 // The first number of the header, in file order, that is outside its range.
 pub fn header_fault(words: &[u32]) -> Fault
     requires { ⌜ headerWords ≤ length (now words) ⌝ }
     ensures { λ f. ⌜ f ≡ headerFault (now (words .entry)) ⌝ }
 {
-    if !is_row_count(words[words::ROWS]) {
-        return Fault::Bad(Refusal::Header);
-    }
-    if is_outside(words[words::CYCLE], 1, 65535) {
-        return Fault::Bad(Refusal::Header);
-    }
-    if is_outside(words[words::REF_LEN], 65, words[words::CYCLE]) {
-        return Fault::Bad(Refusal::Header);
-    }
-    if 2047 < words[words::REF_ID] {
-        return Fault::Bad(Refusal::Header);
-    }
-    if is_outside(words[words::LIMIT], 1, 32) {
-        return Fault::Bad(Refusal::Header);
-    }
-    if is_outside(words[words::COLUMNS], 1, 32) {
-        return Fault::Bad(Refusal::Header);
-    }
-    if 64 < words[words::MESSAGES] {
-        return Fault::Bad(Refusal::Header);
-    }
-    Fault::Clear
+    let cycle = words[words::CYCLE];
+    let of_rows = wrong_at(!is_row_count(words[words::ROWS]), ROWS_AT);
+    let of_cycle = wrong_at(is_outside(cycle, 1, 65535), CYCLE_AT);
+    let of_window = wrong_at(is_outside(words[words::REF_LEN], 65, cycle), REF_LEN_AT);
+    let of_reference = wrong_at(2047 < words[words::REF_ID], REF_ID_AT);
+    let of_limit = wrong_at(is_outside(words[words::LIMIT], 1, 32), LIMIT_AT);
+    let of_columns = wrong_at(is_outside(words[words::COLUMNS], 1, 32), COLUMNS_AT);
+    let of_messages = wrong_at(64 < words[words::MESSAGES], MESSAGES_AT);
+    let of_counts = first(of_limit, first(of_columns, of_messages));
+    let of_reference_message = first(of_window, first(of_reference, of_counts));
+    header_at(first(of_rows, first(of_cycle, of_reference_message)))
 }
 
 // Where a column ends; two words of any size fit.
@@ -177,7 +198,7 @@ fn is_repeated(words: &[u32], k: usize, j: usize) -> bool
 }
 
 // Whether the receivers hold the node; a word has no digit from 32 on.
-fn is_receiver(receivers: u32, node: u32) -> bool
+pub fn is_receiver(receivers: u32, node: u32) -> bool
     ensures { λ r. ⌜ r ≡ eqb (bit receivers node) 1 ⌝ }
 {
     if 32 <= node {
@@ -204,7 +225,7 @@ fn identity_wrong(words: &[u32], k: usize, j: usize) -> bool
 }
 
 // Whether the period is the cycle times 2^k, with 2^k at most the rows.
-fn is_on_grid(rows: u32, cycle: u32, period: u32) -> bool
+pub fn is_on_grid(rows: u32, cycle: u32, period: u32) -> bool
     ensures { λ r. ⌜ r ≡ onGrid rows cycle period ⌝ }
 {
     let mut power: u64 = 1;

@@ -2,7 +2,6 @@
 use Prim.Native.Nat.{ℕ}
 use mathlib.Core.Path.{_≡_, sym, ap, _∙_}
 use mathlib.Core.List.{List}
-use native.Mathlib.Omega.{arith}
 use lib.ListN.{length, take}
 use lib.Seq.{length-take-le}
 use Rattle.rules.specs.declared.Fault.{Fault}
@@ -17,18 +16,13 @@ use Rattle.reader.specs.declared.answer.Read.{Read}
 use Rattle.reader.specs.declared.answer.Read.the-variants.{Problem, Refused}
 use Rattle.reader.specs.Answer.{refusal}
 use Rattle.reader.specs.Promise.{Opened, Decoded}
+use Rattle.reader.proofs.Decoding.{answered-bad, answered-words}
 use Rattle.proposal.specs.Accepted.{checkFault, Accepted}
 use Rattle.proposal.specs.Accept.{Admitted, Tested}
 
-tested-bad : {f w e : List ℕ} {r : Read} (q : Refusal) → r ≡ Refused q → checkFault f w ≡ Bad q → Tested f w e r
-tested-bad q e h = record {
-  refuses = λ u s. h ∙ cc;
-  admits = λ n s. absurd (let z : _≡_ {A = ℕ} 0 1 = cc in omega arith);
-}
-
 -- the file is refused
 pub tested-file : (w : List ℕ) {f e : List ℕ} {r : Read} {q : Refusal} → Decoded f e r → r ≡ Refused q → Tested f w e r
-tested-file w {q = q} d h = tested-bad q h (rw (d .refuses q h))
+tested-file w {q = q} d h = answered-bad q h (rw (d .refuses q h))
 
 -- it is read, and y is what is wrong with the proposal
 module _ (w : List ℕ) {f e : List ℕ} {r : Read} {n : ℕ} {y : Fault} (d : Decoded f e r) (is : r ≡ Problem n) (ey : y ≡ proposalFault (take n e) w) where
@@ -39,19 +33,14 @@ module _ (w : List ℕ) {f e : List ℕ} {r : Read} {n : ℕ} {y : Fault} (d : D
   found = rw (opened .clear, ← opened .front) (sym ey)
 
   pub tested-proposal : {q : Refusal} {s : Read} → s ≡ Refused q → y ≡ Bad q → Tested f w e s
-  tested-proposal {q} s h = tested-bad q s (found ∙ h)
+  tested-proposal {q} s h = answered-bad q s (found ∙ h)
 
   pub tested-clear : {s : Read} → s ≡ Problem n → y ≡ Clear → Tested f w e s
-  tested-clear s-is h = record {
-    refuses = λ q s. absurd (let z : _≡_ {A = ℕ} 0 1 = cc in omega arith);
-    admits = λ i s.
-        let i-is : n ≡ i = cc in
-        rw (← i-is) (record {
-          clear = found ∙ h;
-          within = opened .within;
-          front = opened .front;
-          accepted = record { formed = opened .formed; faultless = sym ey ∙ h };
-        });
+  tested-clear s-is h = answered-words n s-is record {
+    clear = found ∙ h;
+    within = opened .within;
+    front = opened .front;
+    accepted = record { formed = opened .formed; faultless = sym ey ∙ h };
   }
 
 -- what has no fault is accepted

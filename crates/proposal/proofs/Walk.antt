@@ -51,11 +51,11 @@ module _ {p w : List ℕ} {j : ℕ} where
     unfolding fault
     own-first {r = r} l e h = sym (first-at m (fault p w) j r l (a .each) (rw (← e .is, h)))
 
-    pub met-first : {f : Fault} {i : ℕ} {b : Bool} → j < m → Unmet p w i j → Own p w j f → f ≡ Clear → i < j → b ≡ meets p w i j → b ≡ true → Bad (Meeting j) ≡ firstFault m (fault p w)
+    pub met-first : {f : Fault} {i : ℕ} {b : Bool} → j < m → Unmet p w i j → Own p w j f → f ≡ Clear → i < j → b ≡ meets p w i j → b ≡ true → Bad (Meeting j i) ≡ firstFault m (fault p w)
     unfolding fault meetingFault
     met-first {i = i} l u e h k eb t =
-        let met = first-at j (λ k. guard (meets p w k j) (Meeting j)) i (Meeting j) k (λ g m. rw (u .none g m)) (rw (← eb, t)) in
-        sym (first-at m (fault p w) j (Meeting j) l (a .each) (rw (← e .is, h) met))
+        let met = first-at j (λ k. guard (meets p w k j) (Meeting j k)) i (Meeting j i) k (λ g m. rw (u .none g m)) (rw (← eb, t)) in
+        sym (first-at m (fault p w) j (Meeting j i) l (a .each) (rw (← e .is, h) met))
 
 -- the number of words comes first
 module _ (p w : List ℕ) {n : ℕ} (en : n ≡ proposalWords p) where

@@ -3,11 +3,10 @@ use Prim.Native.Nat.{ℕ, _≤_}
 use mathlib.Core.Path.{_≡_}
 use mathlib.Core.List.{List}
 use lib.ListN.{length, take}
-use Rattle.rules.specs.declared.Fault.the-variants.{Clear, Bad}
-use Rattle.rules.specs.declared.Refusal.{Refusal}
+use Rattle.rules.specs.declared.Fault.the-variants.{Clear}
 use Rattle.problem.specs.File.{wordsOf}
 use Rattle.reader.specs.declared.answer.Read.{Read}
-use Rattle.reader.specs.declared.answer.Read.the-variants.{Problem, Refused}
+use Rattle.reader.specs.Promise.{Answered}
 use Rattle.proposal.specs.Accepted.{checkFault, Accepted}
 
 -- the file f and the proposal w are accepted, and the problem's n words stand in front of the buffer e
@@ -17,7 +16,6 @@ pub record Admitted (f w e : List ℕ) (n : ℕ) : Type 0 where
   pub front : take n e ≡ wordsOf f
   pub accepted : Accepted (take n e) w
 
--- f and w are tested, and f is read into a buffer that then is e, with the answer r
-pub record Tested (f w e : List ℕ) (r : Read) : Type 0 where
-  pub refuses : (q : Refusal) → r ≡ Refused q → checkFault f w ≡ Bad q
-  pub admits : (n : ℕ) → r ≡ Problem n → Admitted f w e n
+-- f and w are tested, and f is read into a buffer that then is e
+abbrev pub Tested : List ℕ → List ℕ → List ℕ → Read → Type 0
+Tested f w e = Answered (checkFault f w) (Admitted f w e)

@@ -12,7 +12,7 @@ ghost use Rattle.rules.specs.Refusal.{firstFault};
 ghost use Rattle.rules.specs.Tests.{fault as faultOf, proposalFault};
 ghost use Rattle.proposal.specs.Accept.{Tested};
 
-// The first message with a fault, and at it the lowest number.
+// The first message with a fault, and at it the lowest number; of a meeting also the lowest earlier message.
 fn first_fault(p: &[u32], w: &[u32], messages: usize) -> Fault
     requires { ⌜ WellFormed (now p) × (messages ≡ messageCount (now p)) × (length (now w) ≡ proposalWords (now p)) ⌝ }
     ensures { λ f. ⌜ f ≡ firstFault messages (faultOf (now (p .entry)) (now (w .entry))) ⌝ }
@@ -29,7 +29,7 @@ fn first_fault(p: &[u32], w: &[u32], messages: usize) -> Fault
         let mut i: usize = 0;
         while i < j {
             if placing::do_meet(p, w, i, j) {
-                break 'faults Fault::Bad(Refusal::Meeting(j as u32));
+                break 'faults Fault::Bad(Refusal::Meeting(j as u32, i as u32));
             }
             i += 1;
         }

@@ -11,7 +11,6 @@ use Rattle.rules.specs.declared.Fault.the-variants.{Clear, Bad}
 use Rattle.rules.specs.declared.Refusal.{Refusal}
 use Rattle.rules.specs.declared.Refusal.the-variants.{Room}
 use Rattle.problem.specs.File.{columnsIn, messagesIn, wordsOf}
-use Rattle.problem.specs.Parts.{Counted}
 use Rattle.problem.specs.Wrong.{headFault, fileFault}
 use Rattle.rules.specs.Problem.{wordsFor, mostWords}
 use Rattle.rules.specs.Rules.{wordsFault}
@@ -21,47 +20,57 @@ use Rattle.reader.specs.declared.answer.Read.{Read}
 use Rattle.reader.specs.declared.answer.Read.the-variants.{Problem, Refused}
 use Rattle.rules.proofs.Told.{answers-refused, answers-done}
 use Rattle.reader.specs.Answer.{paper, countOf}
-use Rattle.reader.specs.Promise.{Opened, Decoded, Reading}
+use Rattle.reader.specs.Promise.{Answered, Laid, Opened, Decoded, Reading}
 use Rattle.reader.specs.Parts.{Sized}
 
 pub head-sized : (f : List ℕ) (k m : ℕ) → Head f → k ≡ columnsIn f → m ≡ messagesIn f → Sized f k m
 head-sized f k m h p q = record { columns-are = p; messages-are = q; bytes = omega arith; columns-most = omega arith; messages-most = omega arith }
 
-pub decoded-refused : (f e : List ℕ) (q : Refusal) → fileFault f ≡ Bad q → Decoded f e (Refused q)
-decoded-refused f e q h = record {
-  refuses = λ r s. h ∙ cc;
-  opens = λ n s. absurd (let z : _≡_ {A = ℕ} 0 1 = cc in omega arith);
-}
+-- ---- an answer is a refusal or so many words
+module _ {x : Fault} {P : ℕ → Type 0} {r : Read} where
+  pub answered-bad : (q : Refusal) → r ≡ Refused q → x ≡ Bad q → Answered x P r
+  answered-bad q e h = record {
+    refuses = λ u s. h ∙ cc;
+    opens = λ n s. absurd (let z : _≡_ {A = ℕ} 0 1 = cc in omega arith);
+  }
+
+  pub answered-words : (n : ℕ) → r ≡ Problem n → P n → Answered x P r
+  answered-words n e h = record {
+    refuses = λ q s. absurd (let z : _≡_ {A = ℕ} 0 1 = cc in omega arith);
+    opens = λ i s. let i-is : n ≡ i = cc in rw (← i-is) h;
+  }
 
 -- the words of a file with k columns and m messages, which are n, stand in front of the buffer e
-module _ (f w e : List ℕ) (k m n : ℕ) (s : Sized f k m) (put : e ≡ wordsOf f ++ drop (wordsFor k m) w) (n-is : n ≡ wordsFor k m) where
-  count-is : length (wordsOf f) ≡ n
-  count-is = rw (n-is, s .columns-are, s .messages-are) (length-words f)
+pub laid : (f w e : List ℕ) (k m n : ℕ) → headFault f ≡ Clear → Sized f k m → mostWords ≤ length e → e ≡ wordsOf f ++ drop (wordsFor k m) w → n ≡ wordsFor k m → Laid f e n
+unfolding wordsOf
+laid f w e k m n clear s l put n-is =
+    let count : length (wordsOf f) ≡ n = rw (n-is, s .columns-are, s .messages-are) (length-words f) in
+    let front : take n e ≡ wordsOf f = rw put (take-at (wordsOf f) (drop (wordsFor k m) w) n count) in
+    record {
+      clear = clear;
+      within = omega (arith, n-is, s .columns-most, s .messages-most);
+      front = front;
+      counted = rw front (record {
+        columns-are = refl;
+        messages-are = refl;
+        words = length-words f;
+        columns-most = omega (arith, s .columns-most, s .columns-are);
+        messages-most = omega (arith, s .messages-most, s .messages-are);
+      });
+    }
 
-  front : take n e ≡ wordsOf f
-  front = rw put (take-at (wordsOf f) (drop (wordsFor k m) w) n count-is)
+-- where they stand they are tested, which gives x
+module _ {f e : List ℕ} {n : ℕ} (a : Laid f e n) {x : Fault} (tested : x ≡ wordsFault (take n e)) where
+  fault-is : fileFault f ≡ x
+  fault-is = file-rest f _ x (a .clear) (a .front) tested
 
-  pub front-counted : Counted (take n e) k m
-  unfolding wordsOf
-  front-counted = rw front (record {
-    columns-are = s .columns-are;
-    messages-are = s .messages-are;
-    words = count-is ∙ n-is;
-    columns-most = s .columns-most;
-    messages-most = s .messages-most;
-  })
+  pub decoded-bad : {r : Read} {q : Refusal} → r ≡ Refused q → x ≡ Bad q → Decoded f e r
+  decoded-bad {q = q} is h = answered-bad q is (fault-is ∙ h)
 
-  module _ (head : headFault f ≡ Clear) (x : Fault) (tested : x ≡ wordsFault (take n e)) where
-    pub decoded-bad : (q : Refusal) → x ≡ Bad q → Decoded f e (Refused q)
-    decoded-bad q h = decoded-refused f e q (file-rest f _ x head front tested ∙ h)
-
-    pub decoded-clear : x ≡ Clear → mostWords ≤ length e → Decoded f e (Problem n)
-    decoded-clear h l =
-        let c : fileFault f ≡ Clear = file-rest f _ x head front tested ∙ h in
-        record {
-          refuses = λ q r. absurd (let z : _≡_ {A = ℕ} 0 1 = cc in omega arith);
-          opens = λ i r. let i-is : n ≡ i = cc in rw (← i-is) (record { clear = c; within = omega (arith, n-is, s .columns-most, s .messages-most); front = front; formed = rw front (file-formed f c) });
-        }
+  pub decoded-clear : {r : Read} → r ≡ Problem n → x ≡ Clear → Decoded f e r
+  decoded-clear is h =
+      let c : fileFault f ≡ Clear = fault-is ∙ h in
+      answered-words n is record { clear = c; within = a .within; front = a .front; formed = rw (a .front) (file-formed f c) }
 
 -- the words in front of a buffer that holds a problem are as many as the answer says
 pub opened-length : {f b : List ℕ} {n : ℕ} → Opened f b n → length (take n b) ≡ n

@@ -20,11 +20,11 @@ ghost use Rattle.basics.specs.Runs.{Turned};
 ghost use Rattle.rules.specs.Problem.{headerWords, wordsFor, mostWords};
 ghost use Rattle.problem.specs.File.{two, four, headBytes, headerOf, columnOf, messageOf, columnsIn, messagesIn, wordsOf};
 ghost use Rattle.problem.specs.Wrong.{marked, headFault};
-ghost use Rattle.reader.specs.Promise.{Decoded, Reading};
+ghost use Rattle.reader.specs.Promise.{Taken, Decoded, Reading};
 ghost use Rattle.reader.specs.Parts.{Sized};
 
 // The number that two bytes are.
-fn two_bytes(s: &[u8], at: usize) -> u32
+pub fn two_bytes(s: &[u8], at: usize) -> u32
     requires { ⌜ at + 2 ≤ length (now s) ⌝ }
     ensures { λ r. ⌜ (r ≡ two (now (s .entry)) at) × (r < 65536) ⌝ }
 {
@@ -49,7 +49,7 @@ pub fn is_marked(file: &[u8]) -> bool
 }
 
 // The header's seven words.
-fn read_header(file: &[u8], words: &mut [u32])
+pub fn read_header(file: &[u8], words: &mut [u32])
     requires { ⌜ (headBytes ≤ length (now file)) × (length (now words) ≡ headerWords) ⌝ }
     ensures { λ _. ⌜ now (words .exit) ≡ headerOf (now (file .entry)) ⌝ }
 {
@@ -114,7 +114,7 @@ fn read_messages(part: &[u8], m: usize, words: &mut [u32])
 }
 
 // How many columns the file says that it has.
-fn columns_in(file: &[u8]) -> usize
+pub fn columns_in(file: &[u8]) -> usize
     requires { ⌜ headBytes ≤ length (now file) ⌝ }
     ensures { λ r. ⌜ (r ≡ columnsIn (now (file .entry))) × (r < 256) ⌝ }
 {
@@ -122,7 +122,7 @@ fn columns_in(file: &[u8]) -> usize
 }
 
 // How many messages the file says that it has.
-fn messages_in(file: &[u8]) -> usize
+pub fn messages_in(file: &[u8]) -> usize
     requires { ⌜ headBytes ≤ length (now file) ⌝ }
     ensures { λ r. ⌜ (r ≡ messagesIn (now (file .entry))) × (r < 256) ⌝ }
 {
@@ -149,7 +149,7 @@ fn head_fault(file: &[u8]) -> Fault
         return of_header;
     };
     if file[problem::LAST_AT] != 0 {
-        return Fault::Bad(Refusal::Header);
+        return Fault::Bad(Refusal::Header(problem::LAST_AT as u32));
     }
     if file.len() != bytes_for(columns_in(file), messages_in(file)) {
         return Fault::Bad(Refusal::Length);
@@ -176,10 +176,10 @@ fn read_words(file: &[u8], k: usize, m: usize, words: &mut [u32])
     );
 }
 
-// A file's words in the front of a buffer that is large enough for any problem, or the refusal.
-pub fn decode(file: &[u8], words: &mut [u32]) -> Read
+// The words of a file whose header and length are right, in the front of a buffer that is large enough for any problem, or the refusal. The words are not tested.
+pub fn words_in(file: &[u8], words: &mut [u32]) -> Read
     requires { ⌜ mostWords ≤ length (now words) ⌝ }
-    ensures { λ r. ⌜ Decoded (now (file .entry)) (now (words .exit)) r ⌝ }
+    ensures { λ r. ⌜ Taken (now (file .entry)) (now (words .exit)) r ⌝ }
 {
     let of_head = head_fault(file);
     if let Fault::Bad(q) = of_head {
@@ -188,12 +188,23 @@ pub fn decode(file: &[u8], words: &mut [u32]) -> Read
     let k = columns_in(file);
     let m = messages_in(file);
     read_words(file, k, m, words);
-    let n = words::message_at(k, m);
-    let of_words = words_fault(&words[..n], k, m);
-    if let Fault::Bad(q) = of_words {
+    Read::Problem(words::message_at(k, m))
+}
+
+// A file's words in the front of a buffer that is large enough for any problem, or the refusal.
+pub fn decode(file: &[u8], words: &mut [u32]) -> Read
+    requires { ⌜ mostWords ≤ length (now words) ⌝ }
+    ensures { λ r. ⌜ Decoded (now (file .entry)) (now (words .exit)) r ⌝ }
+{
+    let got = words_in(file, words);
+    let Read::Problem(n) = got else {
+        return got;
+    };
+    let fault = words_fault(&words[..n], columns_in(file), messages_in(file));
+    if let Fault::Bad(q) = fault {
         return Read::Refused(q);
     }
-    Read::Problem(n)
+    got
 }
 
 // Reads a problem file into the caller's buffer, which keeps its words beyond the problem's.

@@ -62,12 +62,12 @@ module _ (p : List ℕ) where
     where
       stated : headerFault p ≡ Clear → Header p
       stated e =
-          let b = clear-both (guard (not (isRowCount (rows p))) BadHeader) _ e in
-          let f = clear-both (guard (outside (cycle p) 1 65535) BadHeader) _ (b .1) in
-          let i = clear-both (guard (outside (refLen p) 65 (cycle p)) BadHeader) _ (f .1) in
-          let l = clear-both (guard (ltb 2047 (refId p)) BadHeader) _ (i .1) in
-          let k = clear-both (guard (outside (limit p) 1 32) BadHeader) _ (l .1) in
-          let m = clear-both (guard (outside (columns p) 1 32) BadHeader) _ (k .1) in
+          let b = clear-both (guard (not (isRowCount (rows p))) (BadHeader _)) _ e in
+          let f = clear-both (guard (outside (cycle p) 1 65535) (BadHeader _)) _ (b .1) in
+          let i = clear-both (guard (outside (refLen p) 65 (cycle p)) (BadHeader _)) _ (f .1) in
+          let l = clear-both (guard (ltb 2047 (refId p)) (BadHeader _)) _ (i .1) in
+          let k = clear-both (guard (outside (limit p) 1 32) (BadHeader _)) _ (l .1) in
+          let m = clear-both (guard (outside (columns p) 1 32) (BadHeader _)) _ (k .1) in
           let cycles = within (cycle p) 1 65535 (clear-guard _ _ (f .0)) in
           let references = within (refLen p) 65 (cycle p) (clear-guard _ _ (i .0)) in
           let limits = within (limit p) 1 32 (clear-guard _ _ (k .0)) in

@@ -53,12 +53,12 @@ table : (
     ∷ seen (two 4 4 400 800) (1 ∷ 0 ∷ 1 ∷ 1 ∷ [])
     -- only what falls due within the first matrix cycle: a send at 200 serves no instance
     ∷ seen late (0 ∷ 0 ∷ [])
-    -- and T1 itself, with its plan and with 13 at place 2
+    -- and T1 itself, with its plan and with 13 at place 2, second place 1
     ∷ seen (t1 300 0) (0 ∷ 0 ∷ 1 ∷ 1 ∷ 1 ∷ 0 ∷ [])
     ∷ seen (t1 300 0) (0 ∷ 0 ∷ 1 ∷ 1 ∷ 1 ∷ 1 ∷ [])
     ∷ []
     )
-    ≡ (Bad (Width 1) ∷ Clear ∷ Clear ∷ Bad (Meeting 1) ∷ Bad (Late 0) ∷ Clear ∷ Bad (Meeting 2) ∷ [])
+    ≡ (Bad (Width 1) ∷ Clear ∷ Clear ∷ Bad (Meeting 1 0) ∷ Bad (Late 0) ∷ Clear ∷ Bad (Meeting 2 1) ∷ [])
 unfolding seen
 table = refl
 

@@ -15,14 +15,14 @@ use Rattle.rules.specs.declared.Fault.the-variants.{Clear, Bad}
 use Rattle.rules.specs.Paper.{done, refused, paperOf, Answers}
 use Rattle.rules.proofs.Faults.{bad-not-clear}
 
--- ---- a fault by its number and place
-faultAt : ℕ → ℕ → Fault
-faultAt n j =
+-- ---- a fault by its number and places
+faultAt : ℕ → ℕ → ℕ → Fault
+faultAt n j i =
     cond (eqb n 0) Clear (
     cond (eqb n 1) (Bad Length) (
     cond (eqb n 2) (Bad Mark) (
     cond (eqb n 3) (Bad Version) (
-    cond (eqb n 4) (Bad Header) (
+    cond (eqb n 4) (Bad (Header j)) (
     cond (eqb n 5) (Bad (Column j)) (
     cond (eqb n 6) (Bad (Identity j)) (
     cond (eqb n 7) (Bad (Timing j)) (
@@ -31,7 +31,7 @@ faultAt n j =
     cond (eqb n 10) (Bad (Range j)) (
     cond (eqb n 11) (Bad (Width j)) (
     cond (eqb n 12) (Bad (Late j)) (
-    cond (eqb n 13) (Bad (Meeting j)) (
+    cond (eqb n 13) (Bad (Meeting j i)) (
     cond (eqb n 14) (Bad NoPlan) (
     cond (eqb n 15) (Bad TooMany) (
     cond (eqb n 16) (Bad Room) (
@@ -40,7 +40,7 @@ faultAt n j =
     Bad Log)))))))))))))))))))
 
 faultIn : Paper → Fault
-faultIn p = faultAt (p .number) (p .place)
+faultIn p = faultAt (p .number) (p .place) (p .second)
 
 back : (f : Fault) → faultIn (paperOf f) ≡ f
 unfolding faultAt faultIn
@@ -48,7 +48,7 @@ back Clear = refl
 back (Bad Length) = refl
 back (Bad Mark) = refl
 back (Bad Version) = refl
-back (Bad Header) = refl
+back (Bad (Header b)) = refl
 back (Bad (Column c)) = refl
 back (Bad (Identity j)) = refl
 back (Bad (Timing j)) = refl
@@ -57,7 +57,7 @@ back (Bad ProposalLength) = refl
 back (Bad (Range j)) = refl
 back (Bad (Width j)) = refl
 back (Bad (Late j)) = refl
-back (Bad (Meeting j)) = refl
+back (Bad (Meeting j i)) = refl
 back (Bad NoPlan) = refl
 back (Bad TooMany) = refl
 back (Bad Room) = refl
@@ -65,7 +65,7 @@ back (Bad EventWords) = refl
 back (Bad (Event j)) = refl
 back (Bad Log) = refl
 
--- the law: number and place settle a fault
+-- the law: number, place and second place settle a fault
 pub paper-one : (f g : Fault) → paperOf f ≡ paperOf g → f ≡ g
 paper-one f g e = sym (back f) ∙ ap faultIn e ∙ back g
 
@@ -77,7 +77,7 @@ numbered q =
       | yes h ↦ h
       | no h ↦
           let e : refused q .number ≡ 0 = omega arith in
-          bad-not-clear (ap (λ (n : ℕ). faultAt n (refused q .place)) e) (back (Bad q))
+          bad-not-clear (ap (λ (n : ℕ). faultAt n (refused q .place) (refused q .second)) e) (back (Bad q))
     ]
 
 pub not-done : {P : Type 0} (q : Refusal) → done ≡ refused q → P
@@ -92,7 +92,7 @@ pub data Told {A X : Type 0} (with : X → A) (refuse : Refusal → A) : A → P
   answered : (x : X) → Told with refuse (with x) done x
   refusing : (q : Refusal) (x : X) → Told with refuse (refuse q) (refused q) x
 
--- the law: number, place and figures settle it
+-- the law: number, places and figures settle it
 pub told-one : {A X : Type 0} {with : X → A} {refuse : Refusal → A} {r s : A} {p t : Paper} {x y : X} → Told with refuse r p x → Told with refuse s t y → p ≡ t → x ≡ y → r ≡ s
 told-one {with = with} (answered x) (answered y) e f = ap with f
 told-one (answered x) (refusing q y) e f = not-done q e

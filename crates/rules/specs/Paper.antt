@@ -1,4 +1,4 @@
--- What an answer is in the paper's terms: its number and place, its figures, and what a lent buffer then holds.
+-- What an answer is in the paper's terms: its number and places, its figures, and what a lent buffer then holds.
 use Prim.Native.Nat.{ℕ}
 use mathlib.Core.List.{List, _++_}
 use mathlib.Core.Path.{_≡_}
@@ -11,10 +11,14 @@ use Rattle.rules.specs.declared.Fault.{Fault}
 use Rattle.rules.specs.declared.Fault.the-variants.{Clear, Bad}
 use Rattle.rules.specs.Refusal.{guard}
 
-abbrev pub at : ℕ → ℕ → Paper
-at n j = record { number = n; place = j }
+abbrev pub between : ℕ → ℕ → ℕ → Paper
+between n j i = record { number = n; place = j; second = i }
 
--- ---- the table of numbers: done is 0, and each refusal has its number and its place
+-- the second place is 0 where nothing is said of it
+abbrev pub at : ℕ → ℕ → Paper
+at n j = between n j 0
+
+-- ---- the table of numbers: done is 0, and each refusal has its number and its places
 abbrev pub done : Paper
 done = at 0 0
 
@@ -22,7 +26,7 @@ abbrev pub refused : Refusal → Paper
 refused Length = at 1 0
 refused Mark = at 2 0
 refused Version = at 3 0
-refused Header = at 4 0
+refused (Header b) = at 4 b
 refused (Column c) = at 5 c
 refused (Identity j) = at 6 j
 refused (Timing j) = at 7 j
@@ -31,7 +35,7 @@ refused ProposalLength = at 9 0
 refused (Range j) = at 10 j
 refused (Width j) = at 11 j
 refused (Late j) = at 12 j
-refused (Meeting j) = at 13 j
+refused (Meeting j i) = between 13 j i
 refused NoPlan = at 14 0
 refused TooMany = at 15 0
 refused Room = at 16 0

@@ -9,21 +9,22 @@ use Rattle.basics.specs.Tests.{outside, some}
 use Rattle.rules.specs.declared.Fault.{Fault}
 use Rattle.rules.specs.declared.Refusal.the-variants.{Length, Header, Column, Identity, Timing, Triggers}
 use Rattle.rules.specs.Refusal.{guard, _⊕_, firstFault}
+use Rattle.rules.specs.Offsets.{rowsByte, cycleByte, refLenByte, refIdByte, limitByte, columnsByte, messagesByte}
 use Rattle.rules.specs.Problem.{rows, cycle, refLen, refId, limit, columns, messages, start, width, identifier, sender, size, receivers, period, offset, deadline, headerWords, wordCount, earliest, nodes, triggers}
 
 abbrev pub isRowCount : ℕ → Bool
 isRowCount r = eqb r 1 || eqb r 2 || eqb r 4 || eqb r 8 || eqb r 16 || eqb r 32 || eqb r 64
 
--- ---- the header: the first number in file order that is outside its range
+-- ---- the header: the first number in file order that is outside its range, by the byte at which it begins
 unfoldable pub headerFault : List ℕ → Fault
 headerFault p =
-    guard (not (isRowCount (rows p))) Header
-    ⊕ guard (outside (cycle p) 1 65535) Header
-    ⊕ guard (outside (refLen p) 65 (cycle p)) Header
-    ⊕ guard (ltb 2047 (refId p)) Header
-    ⊕ guard (outside (limit p) 1 32) Header
-    ⊕ guard (outside (columns p) 1 32) Header
-    ⊕ guard (ltb 64 (messages p)) Header
+    guard (not (isRowCount (rows p))) (Header rowsByte)
+    ⊕ guard (outside (cycle p) 1 65535) (Header cycleByte)
+    ⊕ guard (outside (refLen p) 65 (cycle p)) (Header refLenByte)
+    ⊕ guard (ltb 2047 (refId p)) (Header refIdByte)
+    ⊕ guard (outside (limit p) 1 32) (Header limitByte)
+    ⊕ guard (outside (columns p) 1 32) (Header columnsByte)
+    ⊕ guard (ltb 64 (messages p)) (Header messagesByte)
 
 -- ---- the rules behind it as tests: each says that a rule is broken
 -- column c breaks its rule; only the last has that of the cycle's end

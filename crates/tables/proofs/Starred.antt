@@ -7,7 +7,7 @@ use mathlib.Core.Logic.{⊎-elim}
 use mathlib.Core.Option.{Option, some, none}
 use native.Mathlib.Omega.{arith}
 use lib.Dec.{T, eqb, eqb→eq}
-use lib.ListN.{length, drop, replicate, length-replicate}
+use lib.ListN.{length, getD, drop, replicate, length-replicate}
 use Rattle.basics.specs.Bits.{bit}
 use Rattle.basics.specs.Sums.{sum, largest}
 use Rattle.basics.specs.Tests.{some as someOf}
@@ -16,7 +16,7 @@ use Rattle.rules.specs.Problem.{earliest, triggers, frame, proposalWords, WellF
 use Rattle.rules.specs.Sends.{sendAt}
 use Rattle.rules.specs.Refusal.{isClear, firstFault}
 use Rattle.rules.specs.declared.Paper.{Paper}
-use Rattle.rules.specs.Paper.{at, paperOf}
+use Rattle.rules.specs.Paper.{between, paperOf}
 use Rattle.rules.specs.Rules.{headerFault, columnWrong, repeated, identityWrong, onGrid, timingWrong, overloaded, wordsFault, problemFault}
 use Rattle.rules.specs.Tests.{inRange, fits, wait, timely, common, meets, ownFault, meetingFault, fault, proposalFault}
 use Rattle.rules.proofs.Exact.{exact}
@@ -53,12 +53,17 @@ wellFormed p = isClear (problemFault p)
 formed : (p : List ℕ) → T (wellFormed p) → WellFormed p
 formed p t = problem-kept p .0 (clear-is (problemFault p) t)
 
--- a number and a place
-abbrev isAt : Paper → ℕ → ℕ → Bool
-isAt x n j = eqb (x .number) n && eqb (x .place) j
+-- a number and its places
+abbrev places : Paper → List ℕ
+places x = x .number ∷ x .place ∷ x .second ∷ []
 
-is-at : (x : Paper) (n j : ℕ) → T (isAt x n j) → x ≡ at n j
-is-at x n j t = ap₂ at (eqb→eq (x .number) n (left (eqb (x .number) n) _ t)) (eqb→eq (x .place) j (right (eqb (x .number) n) _ t))
+abbrev isAt : Paper → ℕ → ℕ → ℕ → Bool
+isAt x n j i = same (places x) (places (between n j i))
+
+is-at : (x : Paper) (n j i : ℕ) → T (isAt x n j i) → x ≡ between n j i
+is-at x n j i t =
+    let e = same-is (places x) (places (between n j i)) t in
+    ap (λ (l : List ℕ). between (getD l 0 0) (getD l 1 0) (getD l 2 0)) e
 
 abbrev is : Option (List ℕ) → List ℕ → Bool
 is (some u) w = same u w
@@ -84,7 +89,7 @@ holds (plans-none p) = wellFormed p && isNone (run p)
 holds (loses p w a b c d e) =
     wellFormed p && (isClear (proposalFault p w) && (eqb (reference p) a && (eqb (used p w) b && (eqb (inWindow p w) c && (eqb (empty p w) d && eqb (gaps p) e)))))
 holds (accepts p w) = wellFormed p && isClear (proposalFault p w)
-holds (refuses p w n j) = wellFormed p && isAt (paperOf (proposalFault p w)) n j
+holds (refuses p w n j i) = wellFormed p && isAt (paperOf (proposalFault p w)) n j i
 holds (responds e t m) =
     isClear (eventsFault e) && (same (times e ++ drop (count e) (replicate (count e) 0)) t && eqb (zeros (times e) (count e)) m)
 
@@ -125,9 +130,9 @@ holds-says (accepts p w) t =
     let wf = formed p (left (wellFormed p) (isClear (proposalFault p w)) t) in
     let a = exact p w wf .0 (clear-is (proposalFault p w) (right (wellFormed p) (isClear (proposalFault p w)) t)) in
     (wf, a .0, a .1)
-holds-says (refuses p w n j) t =
+holds-says (refuses p w n j i) t =
     let x : Paper = paperOf (proposalFault p w) in
-    (formed p (left (wellFormed p) (isAt x n j) t), is-at x n j (right (wellFormed p) (isAt x n j) t))
+    (formed p (left (wellFormed p) (isAt x n j i) t), is-at x n j i (right (wellFormed p) (isAt x n j i) t))
 holds-says (responds e t m) h =
     let d : List ℕ = replicate (count e) 0 in
     let x : List ℕ = times e ++ drop (count e) d in

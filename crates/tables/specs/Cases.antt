@@ -5,7 +5,7 @@ use mathlib.Core.List.{List}
 use lib.ListN.{replicate}
 use Rattle.rules.specs.Problem.{matrix, frame, InRange, WellFormed}
 use Rattle.rules.specs.Sends.{Acceptable}
-use Rattle.rules.specs.Paper.{at, paperOf}
+use Rattle.rules.specs.Paper.{between, paperOf}
 use Rattle.rules.specs.Tests.{proposalFault}
 use Rattle.losses.specs.Losses.{reference, used, inWindow, empty, gaps}
 use Rattle.planner.specs.Least.{Plan, Least}
@@ -21,9 +21,9 @@ pub data Case : Type 0 where
   plans-none : (p : List ℕ) → Case
   -- the proposal w for p loses so much in the reference, uses so much, loses so much in windows, in empty cells and in gaps
   loses : (p w : List ℕ) (a b c d e : ℕ) → Case
-  -- the proposal w for p is acceptable; it is refused with a number and a place
+  -- the proposal w for p is acceptable; it is refused with a number, a place and a second place
   accepts : (p w : List ℕ) → Case
-  refuses : (p w : List ℕ) (n j : ℕ) → Case
+  refuses : (p w : List ℕ) (n j i : ℕ) → Case
   -- for the events e the words t are written, and m are missed
   responds : (e t : List ℕ) (m : ℕ) → Case
 
@@ -43,5 +43,5 @@ Says (plans p w) = WellFormed p × Least p w
 Says (plans-none p) = WellFormed p × ((w : List ℕ) → ¬ Plan p w)
 Says (loses p w a b c d e) = Lost p w a b c d e
 Says (accepts p w) = WellFormed p × InRange p w × Acceptable p w
-Says (refuses p w n j) = WellFormed p × (paperOf (proposalFault p w) ≡ at n j)
+Says (refuses p w n j i) = WellFormed p × (paperOf (proposalFault p w) ≡ between n j i)
 Says (responds e t m) = Responding e (replicate (count e) 0) t (Done m)

@@ -37,7 +37,7 @@ starred =
     ∷ plans-none (t1 264)
     ∷ plans two (1 ∷ 0 ∷ 0 ∷ 0 ∷ [])
     ∷ accepts none []
-    ∷ refuses (t1 300) (0 ∷ 0 ∷ 1 ∷ 1 ∷ 1 ∷ 1 ∷ []) 13 2
+    ∷ refuses (t1 300) (0 ∷ 0 ∷ 1 ∷ 1 ∷ 1 ∷ 1 ∷ []) 13 2 1
     ∷ responds (events 440) (270 ∷ 405 ∷ 405 ∷ []) 0
     ∷ responds (events 404) (270 ∷ 405 ∷ 0 ∷ []) 1
     ∷ []

@@ -38,6 +38,13 @@ pub fn set(words: &mut [u32], at: usize, word: u32) {
     }
 }
 
+// Another byte in one place.
+pub fn set_byte(bytes: &mut [u8], at: usize, byte: usize) {
+    if at < bytes.len() {
+        bytes[at] = (byte % 256) as u8;
+    }
+}
+
 // Words in the place of those from a place on, as far as the buffer has room.
 pub fn put(part: &[u32], at: usize, words: &mut [u32]) {
     let mut i: usize = 0;

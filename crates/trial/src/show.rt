@@ -6,11 +6,13 @@ use log::Held;
 use losses::BusTime;
 use losses::Lost;
 use planner::Planned;
+use reader::Read;
 use response::EVENT_WORDS;
 use response::MOST_EVENTS;
 use response::Responded;
 use rules::Refusal;
 use rules::words::MOST_WORDS;
+use rules::words::word;
 use triggers::Listed;
 use writer::Written;
 ghost use Prim.Native.Nat.{_≤_};
@@ -24,6 +26,9 @@ const WANTED_WORDS: usize = 256;
 pub const LENT_WORDS: usize = 1208;
 
 const BEFORE: u32 = 7;
+
+// The number and the places of an answer that is no refusal.
+pub const NONE: [u32; 3] = [0; 3];
 
 // Whether two lists of words are the same.
 fn is_same(a: &[u32], b: &[u32]) -> bool {
@@ -75,16 +80,15 @@ fn end(is_right: bool) {
     }
 }
 
-// Shows a refusal where the document wants the refusal of a number and a place, or none.
-fn end_refused(q: Refusal, number: u32, place: u32) {
+// Shows a refusal where the document wants this number, place and second place; 0 is no refusal.
+fn end_refused(q: Refusal, wanted: [u32; 3]) {
     let told = rules::paper_of(q);
-    let is = told.number;
-    let at = told.place;
+    let is = [told.number, told.place, told.second];
     paper::text(b"refused ");
-    paper::number(is);
-    paper::text(b", place ");
-    paper::number(at);
-    end((is == number) & (at == place));
+    paper::number(is[0]);
+    paper::text(b", places ");
+    paper::words(&is[1..]);
+    end(is_same(&is, &wanted));
 }
 
 // Whether words start with those of a text.
@@ -110,8 +114,8 @@ fn end_words(words: &[u32], number: u32, wanted: &[u8]) {
     end((number == 0) & is_text(words, wanted));
 }
 
-// A proposal checked: the number and the place that the document wants, 0 and 0 where it is accepted.
-pub fn check(title: &[u8], problem: &[u32], proposal: &[u8], number: u32, place: u32) {
+// A proposal checked: the number and the places that the document wants, 0 where it is accepted.
+pub fn check(title: &[u8], problem: &[u32], proposal: &[u8], wanted: [u32; 3]) {
     let mut file = [0u8; problem::MOST_BYTES];
     let n = file_of(problem, &mut file);
     let mut w = [0u32; rules::words::MOST_PROPOSAL];
@@ -121,9 +125,9 @@ pub fn check(title: &[u8], problem: &[u32], proposal: &[u8], number: u32, place:
     match got {
         Checked::Accepted => {
             paper::text(b"accepted");
-            end(number == 0);
+            end(wanted[0] == 0);
         }
-        Checked::Refused(q) => end_refused(q, number, place),
+        Checked::Refused(q) => end_refused(q, wanted),
     }
 }
 
@@ -136,7 +140,7 @@ pub fn plan(title: &[u8], problem: &[u32], number: u32, wanted: &[u8]) {
     let got = planner::plan(&file[..n], &mut proposal);
     match got {
         Planned::Proposal(m) => end_words(front(&proposal, m), number, wanted),
-        Planned::Refused(q) => end_refused(q, number, 0),
+        Planned::Refused(q) => end_refused(q, [number, 0, 0]),
     }
 }
 
@@ -169,13 +173,13 @@ fn losses(title: &[u8], problem: &[u32], proposal: &[u8], wanted: &[u8]) {
     let got = losses::losses(&file[..n], &w[..m]);
     match got {
         Lost::Figures(t) => end_words(&figures(t), 0, wanted),
-        Lost::Refused(q) => end_refused(q, 0, 0),
+        Lost::Refused(q) => end_refused(q, NONE),
     }
 }
 
 // An acceptable proposal: it is accepted, and its losses are those that the document wants.
 pub fn accepted(title: &[u8], problem: &[u32], proposal: &[u8], wanted: &[u8]) {
-    check(title, problem, proposal, 0, 0);
+    check(title, problem, proposal, NONE);
     losses(title, problem, proposal, wanted);
 }
 
@@ -198,7 +202,7 @@ pub fn lists(title: &[u8], problem: &[u32], proposal: &[u8], count: usize, wante
     let got = triggers::lists(&file[..n], &w[..m], &mut words);
     match got {
         Listed::Lists(k) => end_lists(front(&words, k), count, wanted),
-        Listed::Refused(q) => end_refused(q, 0, 0),
+        Listed::Refused(q) => end_refused(q, NONE),
     }
 }
 
@@ -217,7 +221,7 @@ pub fn responses(title: &[u8], events: &[u8], wanted: &[u8], misses: u32) {
             paper::number(missed);
             end(is_text(came, wanted) & (missed == misses));
         }
-        Responded::Refused(q) => end_refused(q, 0, 0),
+        Responded::Refused(q) => end_refused(q, NONE),
     }
 }
 
@@ -229,14 +233,61 @@ pub fn round_trip(title: &[u8], problem: &[u32]) {
     start(title, b", written and read back: ");
     let got = reader::read(&file[..n], &mut words);
     match got {
-        reader::Read::Problem(m) => {
+        Read::Problem(m) => {
             paper::count(n);
             paper::text(b" bytes, ");
             paper::count(m);
             paper::text(b" words");
             end(is_same(front(&words, m), problem));
         }
-        reader::Read::Refused(q) => end_refused(q, 0, 0),
+        Read::Refused(q) => end_refused(q, NONE),
+    }
+}
+
+// Bytes of a file changed: pairs of an offset and a byte.
+fn damage(pairs: &[u32], file: &mut [u8]) {
+    let mut i: usize = 0;
+    while i + 1 < pairs.len() {
+        build::set_byte(file, word(pairs, i), word(pairs, i + 1));
+        i += 2;
+    }
+}
+
+// A file read, after bytes of it were changed.
+fn read_damaged(pairs: &[u32], file: &mut [u8]) -> Read {
+    damage(pairs, file);
+    let mut words = [0u32; MOST_WORDS];
+    reader::read(file, &mut words)
+}
+
+// The file of a problem read with bytes changed: the refusal that the document wants. The pairs of offset and byte stand as text.
+pub fn damaged(title: &[u8], problem: &[u32], pairs: &[u8], wanted: [u32; 3]) {
+    let mut file = [0u8; problem::MOST_BYTES];
+    let n = file_of(problem, &mut file);
+    let mut changed = [0u32; WANTED_WORDS];
+    let m = build::words(pairs, &mut changed);
+    start(title, b", read: ");
+    let got = read_damaged(&changed[..m], &mut file[..n]);
+    match got {
+        Read::Problem(_) => {
+            paper::text(b"a problem");
+            end(wanted[0] == 0);
+        }
+        Read::Refused(q) => end_refused(q, wanted),
+    }
+}
+
+// A problem's words written: the refusal that the document wants.
+pub fn write(title: &[u8], problem: &[u32], wanted: [u32; 3]) {
+    let mut file = [0u8; problem::MOST_BYTES];
+    start(title, b", written: ");
+    let got = writer::write(problem, &mut file);
+    match got {
+        Written::File(_) => {
+            paper::text(b"a file");
+            end(wanted[0] == 0);
+        }
+        Written::Refused(q) => end_refused(q, wanted),
     }
 }
 
@@ -265,7 +316,7 @@ pub fn hold(
             paper::text(b"differs, ");
             end_words(&[d.index, d.time, d.identifier], number, wanted);
         }
-        Held::Refused(q) => end_refused(q, number, 0),
+        Held::Refused(q) => end_refused(q, [number, 0, 0]),
     }
 }
 
@@ -325,7 +376,7 @@ pub fn due(
             if !is_kept(&list, 0) {
                 paper::text(b"written to, ");
             }
-            end_refused(q, number, 0);
+            end_refused(q, [number, 0, 0]);
         }
     }
 }

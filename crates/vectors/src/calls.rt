@@ -10,6 +10,7 @@ use planner::answer::Planned;
 use reader::Read;
 use response::EVENT_WORDS;
 use response::Responded;
+use rules::Paper;
 use rules::Refusal;
 use triggers::Listed;
 use writer::Written;
@@ -82,12 +83,12 @@ pub fn pattern(call: u8) -> u32 {
     WORD_PATTERN
 }
 
-// An answer; none has a second place or a second output yet.
-fn numbers(number: u32, place: u32, figures: [u32; FIGURES], written: usize) -> [u64; NUMBERS] {
+// An answer; none has a second output yet.
+fn numbers(told: Paper, figures: [u32; FIGURES], written: usize) -> [u64; NUMBERS] {
     [
-        basics::long(number),
-        basics::long(place),
-        0,
+        basics::long(told.number),
+        basics::long(told.place),
+        basics::long(told.second),
         basics::long(figures[0]),
         basics::long(figures[1]),
         basics::long(figures[2]),
@@ -98,15 +99,24 @@ fn numbers(number: u32, place: u32, figures: [u32; FIGURES], written: usize) -> 
     ]
 }
 
+// The answer of a call that is done, with its figures.
+fn finished(figures: [u32; FIGURES], written: usize) -> [u64; NUMBERS] {
+    let told = Paper {
+        number: 0,
+        place: 0,
+        second: 0,
+    };
+    numbers(told, figures, written)
+}
+
 // The answer of a call that is done and has no figures.
 pub fn done(written: usize) -> [u64; NUMBERS] {
-    numbers(0, 0, [0; FIGURES], written)
+    finished([0; FIGURES], written)
 }
 
 // The answer of a call that refuses: all figures are 0.
 fn refused(q: Refusal) -> [u64; NUMBERS] {
-    let told = rules::paper_of(q);
-    numbers(told.number, told.place, [0; FIGURES], 0)
+    numbers(rules::paper_of(q), [0; FIGURES], 0)
 }
 
 // Call 1: a file into words.
@@ -139,7 +149,7 @@ fn check(file: &[u8], proposal: &[u32]) -> [u64; NUMBERS] {
 
 // The answer of the losses.
 fn figures(t: BusTime) -> [u64; NUMBERS] {
-    numbers(0, 0, [t.reference, t.used, t.in_window, t.empty, t.gaps], 0)
+    finished([t.reference, t.used, t.in_window, t.empty, t.gaps], 0)
 }
 
 // Call 4: where the bus time goes.
@@ -171,7 +181,7 @@ fn plan(file: &[u8], proposal: &mut [u32]) -> [u64; NUMBERS] {
 
 // The answer of the response times.
 fn missed(misses: u32, written: usize) -> [u64; NUMBERS] {
-    numbers(0, 0, [misses, 0, 0, 0, 0], written)
+    finished([misses, 0, 0, 0, 0], written)
 }
 
 // Call 7: response times, one for each event.
@@ -185,7 +195,7 @@ fn respond(events: &[u32], times: &mut [u32]) -> [u64; NUMBERS] {
 
 // The answer where a log differs: that it does, where, and what was due there.
 fn differs(d: Difference) -> [u64; NUMBERS] {
-    numbers(0, 0, [1, d.index, d.time, d.identifier, 0], 0)
+    finished([1, d.index, d.time, d.identifier, 0], 0)
 }
 
 // Call 8: a log held against the plan.

@@ -5,7 +5,7 @@ use Rattle.checker.proofs.check.Statement.{statement}
 use Rattle.checker.proofs.check.Tie as tie
 
 returns : tie.Need-returns
-returns c = checking-clear _ _ (c .before .before .before .accept .ensures .admits _ (c .enum-told .given .1) .clear)
+returns c = checking-clear _ _ (c .before .before .before .accept .ensures .opens _ (c .enum-told .given .1) .clear)
 
 returns-2 : tie.Need-returns-2
 returns-2 c = let got = c .before in checking-bad _ _ _ (got .before .before .before .accept .ensures .refuses _ (got .got .given .1))

@@ -25,17 +25,17 @@ returns-2 c =
     let got = outside .before .before in
     let tested = got .before .before .before in
     let start = tested .before .before .before .before .before in
-    due-span-refused _ _ _ (start .args .list .now) (tested .accept .ensures .admits _ (got .got .given .1)) (sym (outside .is-outside .ensures) ∙ c .if1 .taken)
+    due-span-refused _ _ _ (start .args .list .now) (tested .accept .ensures .opens _ (got .got .given .1)) (sym (outside .is-outside .ensures) ∙ c .if1 .taken)
 
 -- behind the test the span is a right one
 span-right : (c : tie.Else1) → wrongSpan (c .before .before .before .before .before .before .before .before .before .before .before .args .span) ≡ false
 span-right c = sym (c .before .is-outside .ensures) ∙ c .if1 .left
 
 array-share-prefix-buffer : tie.Need-array-share-prefix-buffer
-array-share-prefix-buffer c = let got = c .before .before .before in got .before .before .before .accept .ensures .admits _ (got .got .given .1) .within
+array-share-prefix-buffer c = let got = c .before .before .before in got .before .before .before .accept .ensures .opens _ (got .got .given .1) .within
 
 slice-aggregate-due-accepted : tie.Need-slice-aggregate-due-accepted
-slice-aggregate-due-accepted c = let got = c .before .before .before .before in sym (admitted-length (got .before .before .before .accept .ensures .admits _ (got .got .given .1)))
+slice-aggregate-due-accepted c = let got = c .before .before .before .before in sym (admitted-length (got .before .before .before .accept .ensures .opens _ (got .got .given .1)))
 
 due-accepted-requires : tie.Need-due-accepted-requires
 due-accepted-requires c κs =
@@ -43,7 +43,7 @@ due-accepted-requires c κs =
     let got = spanned .before .before .before in
     let tested = got .before .before .before in
     let start = tested .before .before .before .before .before in
-    (tested .accept .ensures .admits _ (got .got .given .1) .accepted, omega (arith, within (start .args .span) 1 mostSpan (span-right spanned)))
+    (tested .accept .ensures .opens _ (got .got .given .1) .accepted, omega (arith, within (start .args .span) 1 mostSpan (span-right spanned)))
 
 returns-3 : tie.Need-returns-3
 returns-3 c =
@@ -52,7 +52,7 @@ returns-3 c =
     let spanned = widened .before .before in
     let got = spanned .before .before .before in
     let tested = got .before .before .before in
-    due-span-accepted _ _ _ _ (tested .accept .ensures .admits _ (got .got .given .1)) (span-right spanned) (widened .wide .ensures .0) (called .due-accepted .ensures)
+    due-span-accepted _ _ _ _ (tested .accept .ensures .opens _ (got .got .given .1)) (span-right spanned) (widened .wide .ensures .0) (called .due-accepted .ensures)
 
 pub due-spec : {M : Type 1} → statement M
 due-spec =

@@ -24,7 +24,7 @@ returns-2 c =
     let outside = c .before in
     let got = outside .before .before in
     let tested = got .before .before .before in
-    log-refused _ _ _ _ (tested .accept .ensures .admits _ (got .got .given .1)) (rw (← (outside .is-outside .ensures)) (c .if1 .taken))
+    log-refused _ _ _ _ (tested .accept .ensures .opens _ (got .got .given .1)) (rw (← (outside .is-outside .ensures)) (c .if1 .taken))
 
 -- behind the test log and span are right ones
 right : (c : tie.Else1)
@@ -33,10 +33,10 @@ right : (c : tie.Else1)
 right c = rw (← (c .before .is-outside .ensures)) (c .if1 .left)
 
 array-share-prefix-buffer : tie.Need-array-share-prefix-buffer
-array-share-prefix-buffer c = let got = c .before .before .before in got .before .before .before .accept .ensures .admits _ (got .got .given .1) .within
+array-share-prefix-buffer c = let got = c .before .before .before in got .before .before .before .accept .ensures .opens _ (got .got .given .1) .within
 
 slice-aggregate-hold-accepted : tie.Need-slice-aggregate-hold-accepted
-slice-aggregate-hold-accepted c = let got = c .before .before .before .before in sym (admitted-length (got .before .before .before .accept .ensures .admits _ (got .got .given .1)))
+slice-aggregate-hold-accepted c = let got = c .before .before .before .before in sym (admitted-length (got .before .before .before .accept .ensures .opens _ (got .got .given .1)))
 
 hold-accepted-requires : tie.Need-hold-accepted-requires
 hold-accepted-requires c κs =
@@ -45,7 +45,7 @@ hold-accepted-requires c κs =
     let tested = got .before .before .before in
     let start = tested .before .before .before .before .before in
     let fits = log-right (length (start .args .log .now)) (start .args .span) (right passed) in
-    (tested .accept .ensures .admits _ (got .got .given .1) .accepted, fits .0, omega (arith, fits .1), omega (arith, fits .1))
+    (tested .accept .ensures .opens _ (got .got .given .1) .accepted, fits .0, omega (arith, fits .1), omega (arith, fits .1))
 
 returns-3 : tie.Need-returns-3
 returns-3 c =
@@ -53,7 +53,7 @@ returns-3 c =
     let passed = widened .before .before in
     let got = passed .before .before .before in
     let tested = got .before .before .before in
-    log-accepted _ _ _ _ (tested .accept .ensures .admits _ (got .got .given .1)) (right passed) (widened .wide .ensures .0) (c .hold-accepted .ensures)
+    log-accepted _ _ _ _ (tested .accept .ensures .opens _ (got .got .given .1)) (right passed) (widened .wide .ensures .0) (c .hold-accepted .ensures)
 
 pub hold-spec : {M : Type 1} → statement M
 hold-spec =

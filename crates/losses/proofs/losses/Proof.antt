@@ -13,18 +13,18 @@ returns c =
 
 -- where the answer is a problem, the buffer begins with its words
 array-share-prefix-words : tie.Need-array-share-prefix-words
-array-share-prefix-words c = let got = c .before in got .before .before .before .accept .ensures .admits _ (got .got .given .1) .within
+array-share-prefix-words c = let got = c .before in got .before .before .before .accept .ensures .opens _ (got .got .given .1) .within
 
 slice-aggregate-figures : tie.Need-slice-aggregate-figures
-slice-aggregate-figures c = let got = c .before .before in sym (admitted-length (got .before .before .before .accept .ensures .admits _ (got .got .given .1)))
+slice-aggregate-figures c = let got = c .before .before in sym (admitted-length (got .before .before .before .accept .ensures .opens _ (got .got .given .1)))
 
 figures-requires : tie.Need-figures-requires
-figures-requires c κs = let got = c .before .before in got .before .before .before .accept .ensures .admits _ (got .got .given .1) .accepted
+figures-requires c κs = let got = c .before .before in got .before .before .before .accept .ensures .opens _ (got .got .given .1) .accepted
 
 returns-2 : tie.Need-returns-2
 returns-2 c =
     let got = c .before .before .before in
-    losing-figures (got .before .before .before .accept .ensures .admits _ (got .got .given .1)) (c .figures .ensures)
+    losing-figures (got .before .before .before .accept .ensures .opens _ (got .got .given .1)) (c .figures .ensures)
 
 pub losses-spec : {M : Type 1} → statement M
 losses-spec =

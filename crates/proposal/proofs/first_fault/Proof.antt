@@ -83,6 +83,7 @@ first-fault-spec =
     (λ c. search needs)
     (λ c. search needs)
     (λ c. search needs)
+    (λ c. search needs)
     loop-again
     (λ c. search needs)
     (λ c. search needs)

@@ -82,6 +82,7 @@ head-fault-spec =
     (λ c. search needs)
     returns-4
     (λ c. search needs)
+    (λ c. search needs)
     returns-5
     (λ c κs. search needs)
     (λ c κs. search needs)

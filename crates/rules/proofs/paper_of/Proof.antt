@@ -1,4 +1,4 @@
--- Number and place, variant by variant: what the pattern binds is what the table takes out of the constructor.
+-- Number and places, variant by variant: what the pattern binds is what the table takes out of the constructor.
 use mathlib.Core.Path.{ap, sym, _∙_}
 use borrow.Author.Needs.{needs}
 use Rattle.rules.specs.Paper.{refused}
@@ -50,19 +50,19 @@ paper-of-spec =
     (λ c. c .at .ensures ∙ ap refused (sym (c .before .enum-told .given .1)))
     (λ c. c .at2 .ensures ∙ ap refused (sym (c .before .enum-told2 .given .1)))
     (λ c. c .at3 .ensures ∙ ap refused (sym (c .before .enum-told3 .given .1)))
-    (λ c. c .at4 .ensures ∙ ap refused (sym (c .before .enum-told4 .given .1)))
-    (λ c. c .at5 .ensures ∙ ap refused (sym (c .before .before .q .given .1)))
-    (λ c. c .at6 .ensures ∙ ap refused (sym (c .before .before .q2 .given .1)))
-    (λ c. c .at7 .ensures ∙ ap refused (sym (c .before .before .q3 .given .1)))
-    (λ c. c .at8 .ensures ∙ ap refused (sym (c .before .before .q4 .given .1)))
-    (λ c. c .at9 .ensures ∙ ap refused (sym (c .before .enum-told5 .given .1)))
-    (λ c. c .at10 .ensures ∙ ap refused (sym (c .before .before .q5 .given .1)))
-    (λ c. c .at11 .ensures ∙ ap refused (sym (c .before .before .q6 .given .1)))
-    (λ c. c .at12 .ensures ∙ ap refused (sym (c .before .before .q7 .given .1)))
-    (λ c. c .at13 .ensures ∙ ap refused (sym (c .before .before .q8 .given .1)))
+    (λ c. c .at4 .ensures ∙ ap refused (sym (c .before .before .q .given .1)))
+    (λ c. c .at5 .ensures ∙ ap refused (sym (c .before .before .q2 .given .1)))
+    (λ c. c .at6 .ensures ∙ ap refused (sym (c .before .before .q3 .given .1)))
+    (λ c. c .at7 .ensures ∙ ap refused (sym (c .before .before .q4 .given .1)))
+    (λ c. c .at8 .ensures ∙ ap refused (sym (c .before .before .q5 .given .1)))
+    (λ c. c .at9 .ensures ∙ ap refused (sym (c .before .enum-told4 .given .1)))
+    (λ c. c .at10 .ensures ∙ ap refused (sym (c .before .before .q6 .given .1)))
+    (λ c. c .at11 .ensures ∙ ap refused (sym (c .before .before .q7 .given .1)))
+    (λ c. c .at12 .ensures ∙ ap refused (sym (c .before .before .q8 .given .1)))
+    (λ c. c .between .ensures ∙ ap refused (sym (c .before .before .q9 .given .1)))
+    (λ c. c .at13 .ensures ∙ ap refused (sym (c .before .enum-told5 .given .1)))
     (λ c. c .at14 .ensures ∙ ap refused (sym (c .before .enum-told6 .given .1)))
     (λ c. c .at15 .ensures ∙ ap refused (sym (c .before .enum-told7 .given .1)))
     (λ c. c .at16 .ensures ∙ ap refused (sym (c .before .enum-told8 .given .1)))
-    (λ c. c .at17 .ensures ∙ ap refused (sym (c .before .enum-told9 .given .1)))
-    (λ c. c .at18 .ensures ∙ ap refused (sym (c .before .before .q9 .given .1)))
-    (λ c. c .at19 .ensures ∙ ap refused (sym (c .before .enum-told10 .given .1))))
+    (λ c. c .at17 .ensures ∙ ap refused (sym (c .before .before .q10 .given .1)))
+    (λ c. c .at18 .ensures ∙ ap refused (sym (c .before .enum-told9 .given .1))))

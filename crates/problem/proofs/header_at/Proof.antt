@@ -1,0 +1,17 @@
+-- 0 is no fault, and any other byte is one.
+use borrow.Author.Tests.{ne-eqb}
+use borrow.Author.Needs.{needs}
+use Rattle.problem.specs.Parts.{headerAt}
+use Rattle.problem.proofs.header_at.Statement.{statement}
+use Rattle.problem.proofs.header_at.Tie as tie
+
+returns : tie.Need-returns
+unfolding headerAt
+returns c = rw (c .if1 .taken)
+
+returns-2 : tie.Need-returns-2
+unfolding headerAt
+returns-2 c = rw (ne-eqb _ 0 (c .if1 .left))
+
+pub header-at-spec : {M : Type 1} → statement M
+header-at-spec = tie.close (tie.spec returns returns-2)
