@@ -60,12 +60,13 @@ edited() {
 }
 
 e=examples
+meeting='refused 13, message 2 (identifier 48) meets message 1 (identifier 32) in column 1, row 1'
 printf '%s\n' '-- answers'
 answers 0 accepted check $e/t1.tsm $e/t1.plan
 answers 0 accepted check $e/t1.words $e/t1.plan
 answers 0 accepted check $e/document-003.words $e/document-003.plan
 answers 0 accepted check $e/press-line.words $e/press-line.plan
-answers 1 'refused 13, message 2 meets an earlier message' check $e/t1.words $e/t1-meeting.plan
+answers 1 "$meeting" check $e/t1.words $e/t1-meeting.plan
 says 0 'cycle   7    F0    51    52    53   102   104   202   404     .'
 says 0 'cycle   1     1    10    20     .' show $e/t1.tsm $e/t1.plan
 says 0 'in-window          40' losses $e/t1.tsm $e/t1.plan
@@ -76,38 +77,108 @@ says 0 'ttplan check FILE PROPOSAL' help
 says 0 'ttplan hold FILE PROPOSAL LOG SPAN' help
 
 printf '%s\n' '-- every refusal that a person can meet'
-head -c 15 $e/t1.tsm >"$scratch/short.tsm"
-answers 1 'refused 1, the length does not fit the numbers of columns and messages' plan "$scratch/short.tsm"
-(printf 'TSN' && tail -c +4 $e/t1.tsm) >"$scratch/mark.tsm"
-answers 1 'refused 2, the file does not begin with the mark TSM' plan "$scratch/mark.tsm"
-(printf 'TSM\0\2' && tail -c +6 $e/t1.tsm) >"$scratch/version.tsm"
-answers 1 'refused 3, the version of the file is not 1' plan "$scratch/version.tsm"
-edited 0 3
-answers 1 'refused 4, a number of the header is out of range' plan "$scratch/edited.words"
-edited 10 0
-answers 1 'refused 5, column 1 has no width, begins too early or ends after the basic cycle' plan "$scratch/edited.words"
-edited 20 16
-answers 1 'refused 6, message 1 has a wrong identifier, sender, data length or receiver' plan "$scratch/edited.words"
-edited 24 500
-answers 1 'refused 7, message 1 has a wrong period, offset or deadline' plan "$scratch/edited.words"
-edited 4 3
-answers 1 'refused 8, node 0 needs more triggers than the limit' plan "$scratch/edited.words"
-echo 0 0 1 1 1 >"$scratch/p"
-answers 1 'refused 9, the proposal does not have two words for each message' check $e/t1.tsm "$scratch/p"
-echo 0 0 1 1 1 2 >"$scratch/p"
-answers 1 'refused 10, message 2 is given a column or a base row that it cannot have' losses $e/t1.tsm "$scratch/p"
-echo 1 0 0 0 0 0 >"$scratch/p"
-answers 1 'refused 11, message 0 is longer than its window' lists $e/t1.tsm "$scratch/p"
-echo 0 0 1 0 1 1 >"$scratch/p"
-answers 1 'refused 12, message 1 is late for its deadline' show $e/t1.tsm "$scratch/p"
+
+# words_refused AT VALUE TEXT: T1's words with the one at a place changed are refused with this text.
+words_refused() {
+    edited "$1" "$2"
+    answers 1 "refused $3" plan "$scratch/edited.words"
+}
+
+# file_refused AT BYTES TEXT: T1's file with bytes (as printf writes them) put at a place is refused with this text.
+file_refused() {
+    cp $e/t1.tsm "$scratch/edited.tsm"
+    printf '%b' "$2" | dd of="$scratch/edited.tsm" bs=1 seek="$1" conv=notrunc 2>/dev/null
+    answers 1 "refused $3" plan "$scratch/edited.tsm"
+}
+
+# proposal_refused COMMAND WORDS TEXT: this proposal for T1 is refused by a command with this text.
+proposal_refused() {
+    echo "$2" >"$scratch/p"
+    answers 1 "refused $3" "$1" $e/t1.tsm "$scratch/p"
+}
+
+# events_refused WORDS TEXT: these events are refused with this text.
+events_refused() {
+    echo "$1" >"$scratch/events"
+    answers 1 "refused $2" times "$scratch/events"
+}
+
+head -c 15 $e/t1.tsm >"$scratch/length.tsm"
+answers 1 'refused 1, a file has at least 16 bytes, found 15' plan "$scratch/length.tsm"
+(cat $e/t1.tsm && printf 'x') >"$scratch/length.tsm"
+answers 1 'refused 1, 3 columns and 3 messages make a file of 82 bytes, found 83' plan "$scratch/length.tsm"
+head -c 81 $e/t1.tsm >"$scratch/length.tsm"
+answers 1 'refused 1, 3 columns and 3 messages make a file of 82 bytes, found 81' check "$scratch/length.tsm" $e/t1.plan
+echo 2 400 65 1 32 3 >"$scratch/length.words"
+answers 1 'refused 1, a problem has at least 7 words, found 6' plan "$scratch/length.words"
+edited 34 0
+head -n 33 "$scratch/edited.words" >"$scratch/length.words"
+answers 1 'refused 1, 3 columns and 3 messages make 34 words, found 33' plan "$scratch/length.words"
+echo 1 1000 65 1 32 1 1 65 135 >"$scratch/length.words"
+answers 1 'refused 1, 1 column and 1 message make 16 words, found 9' file "$scratch/length.words"
+file_refused 2 N '2, the file does not begin with the mark TSM'
+file_refused 3 '\0\2' '3, the version of the file must be 1, found 2'
+words_refused 0 3 '4, byte 5: the number of rows must be 1, 2, 4, 8, 16, 32 or 64, found 3'
+words_refused 1 0 '4, byte 6: the basic cycle must be 1 to 65535, found 0'
+words_refused 1 65536 '4, byte 6: the basic cycle must be 1 to 65535, found 65536'
+words_refused 2 64 '4, byte 8: the reference window must be 65 to B (400), found 64'
+words_refused 2 401 '4, byte 8: the reference window must be 65 to B (400), found 401'
+words_refused 3 2048 '4, byte 10: the reference identifier must be 0 to 2047, found 2048'
+words_refused 4 0 '4, byte 12: the limit of triggers must be 1 to 32, found 0'
+words_refused 5 0 '4, byte 13: the number of columns must be 1 to 32, found 0'
+words_refused 6 65 '4, byte 14: the number of messages must be 0 to 64, found 65'
+file_refused 5 '\3' '4, byte 5: the number of rows must be 1, 2, 4, 8, 16, 32 or 64, found 3'
+file_refused 6 '\0\0' '4, byte 6: the basic cycle must be 1 to 65535, found 0'
+file_refused 8 '\0\100' '4, byte 8: the reference window must be 65 to B (400), found 64'
+file_refused 10 '\10\0' '4, byte 10: the reference identifier must be 0 to 2047, found 2048'
+file_refused 12 '\41' '4, byte 12: the limit of triggers must be 1 to 32, found 33'
+file_refused 13 '\0' '4, byte 13: the number of columns must be 1 to 32, found 0'
+file_refused 14 '\101' '4, byte 14: the number of messages must be 0 to 64, found 65'
+file_refused 15 '\1' '4, byte 15: the last byte of the header must be 0, found 1'
+words_refused 7 64 '5, column 0 (start 64, width 135): it must not start below 65, where the reference window ends'
+words_refused 9 150 '5, column 1 (start 150, width 100): it must not start below 200, where column 0 ends'
+words_refused 9 65536 '5, column 1 (start 65536, width 100): the start must be at most 65535'
+words_refused 10 0 '5, column 1 (start 200, width 0): the width must be 1 to 65535'
+words_refused 10 65536 '5, column 1 (start 200, width 65536): the width must be 1 to 65535'
+words_refused 12 101 '5, column 2 (start 300, width 101): it must not end above 400, the basic cycle'
+file_refused 20 '\0\226' '5, column 1 (start 150, width 100): it must not start below 200, where column 0 ends'
+words_refused 21 16 '6, message 1 (identifier 32): the sender must be node 0 to 15, found 16'
+words_refused 20 2048 '6, message 1 (identifier 2048): the identifier must be 0 to 2047, found 2048'
+words_refused 20 1 '6, message 1 (identifier 1): it has the identifier of the reference message'
+words_refused 22 9 '6, message 1 (identifier 32): the data bytes must be 0 to 8, found 9'
+words_refused 23 65536 '6, message 1 (identifier 32): the receivers must be a mask of 0 to 65535, found 65536'
+words_refused 23 2 '6, message 1 (identifier 32): its sender, node 1, must not be among its receivers, found mask 2'
+words_refused 27 16 '6, message 2 (identifier 16): it has the identifier of message 0'
+file_refused 48 '\20' '6, message 1 (identifier 32): the sender must be node 0 to 15, found 16'
+words_refused 24 500 '7, message 1 (identifier 32): the period must be the basic cycle (400) times a power of two up to the rows (2), found 500'
+words_refused 25 800 '7, message 1 (identifier 32): the offset must be below the period (800), found 800'
+words_refused 26 801 '7, message 1 (identifier 32): the deadline must be 1 to the period (800), found 801'
+words_refused 26 0 '7, message 1 (identifier 32): the deadline must be 1 to the period (800), found 0'
+file_refused 52 '\0\0\1\364' '7, message 1 (identifier 32): the period must be the basic cycle (400) times a power of two up to the rows (2), found 500'
+words_refused 4 3 '8, node 0: it needs 4 triggers, and the limit is 3'
+file_refused 12 '\3' '8, node 0: it needs 4 triggers, and the limit is 3'
+proposal_refused check '0 0 1 1 1' '9, 3 messages need a proposal of 6 words, found 5'
+echo 1 1000 65 1 32 1 1 65 135 2 0 0 0 1000 0 1000 >"$scratch/one.words"
+answers 1 'refused 9, 1 message needs a proposal of 2 words, found 5' check "$scratch/one.words" "$scratch/p"
+proposal_refused losses '0 0 1 1 3 0' '10, message 2 (identifier 48): the column must be 0 to 2, found 3'
+proposal_refused losses '0 0 1 1 1 2' '10, message 2 (identifier 48): the base row must be 0 to 1, found 2'
+proposal_refused lists '1 0 0 0 0 0' '11, message 0 (identifier 16): its frame takes 135, and column 1 is 100 wide'
+proposal_refused show '0 0 1 0 1 1' '12, message 1 (identifier 32) in column 1, base row 0: it waits 600 and its frame takes 65, 665 in all, and its deadline is 300'
+proposal_refused check '0 0 1 1 0 1' '13, message 2 (identifier 48) meets message 0 (identifier 16) in column 0, row 1'
 edited 26 264
 answers 1 'refused 14, no acceptable proposal exists' plan "$scratch/edited.words"
 (echo 1 1000 65 1 32 1 17 65 135 && for i in $(seq 17); do echo "$((i + 1)) $((i % 16)) 0 0 1000 0 1000"; done) >"$scratch/many.words"
-answers 1 'refused 15, the planner takes at most 16 messages' plan "$scratch/many.words"
-echo 1 8 337 0 >"$scratch/events"
-answers 1 'refused 17, events have five words each, and there are at most 64' times "$scratch/events"
-echo 1 8 337 0 337 1 8 337 0 337 >"$scratch/events"
-answers 1 'refused 18, event 1 has a wrong identifier, data length, period, jitter or deadline' times "$scratch/events"
+answers 1 'refused 15, the planner takes at most 16 messages, found 17' plan "$scratch/many.words"
+events_refused '1 8 337 0' '17, events have five words each, and there are at most 64, found 4 words'
+events_refused "$(seq 325)" '17, events have five words each, and there are at most 64, found 325 words'
+events_refused '2048 8 337 0 337' '18, event 0 (identifier 2048): the identifier must be 0 to 2047, found 2048'
+events_refused '1 8 337 0 337 2 9 337 0 337' '18, event 1 (identifier 2): the data bytes must be 0 to 8, found 9'
+events_refused '1 8 0 0 337' '18, event 0 (identifier 1): the period must be 1 to 4194304, found 0'
+events_refused '1 8 4194305 0 337' '18, event 0 (identifier 1): the period must be 1 to 4194304, found 4194305'
+events_refused '1 8 337 337 337' '18, event 0 (identifier 1): the jitter must be below the period (337), found 337'
+events_refused '1 8 337 0 338' '18, event 0 (identifier 1): the deadline must be 1 to the period (337), found 338'
+events_refused '1 8 337 0 0' '18, event 0 (identifier 1): the deadline must be 1 to the period (337), found 0'
+events_refused '1 8 337 0 337 1 8 337 0 337' '18, event 1 (identifier 1): it has the identifier of event 0'
 edited 26 265
 says 0 '1 1 # message 1, identifier 20' plan "$scratch/edited.words"
 sed 's/440/404/' $e/events.words >"$scratch/events"
@@ -184,15 +255,15 @@ differs 0 'time 0, identifier 70000: no message of the plan' 'time 0, identifier
 : >"$log"
 differs 0 'nothing, the log ends there' 'time 0, identifier 1 (hexadecimal 1): reference message, matrix cycle 0, row 0'
 due 1
-wrong='refused 24, the log has an odd count of words, or the span is not 1 to 100 matrix cycles'
-answers 1 "$wrong" hold $e/t1.tsm $e/t1.plan "$log" 0
-answers 1 "$wrong" hold $e/t1.tsm $e/t1.plan "$log" 101
-answers 1 "$wrong" due $e/t1.tsm $e/t1.plan 0
-answers 1 "$wrong" due $e/t1.tsm $e/t1.plan 101
+for span in 0 101; do
+    wrong="refused 24, the span must be 1 to 100 matrix cycles, found $span"
+    answers 1 "$wrong" hold $e/t1.tsm $e/t1.plan "$log" "$span"
+    answers 1 "$wrong" due $e/t1.tsm $e/t1.plan "$span"
+done
 echo 800 >>"$log"
-answers 1 "$wrong" hold $e/t1.tsm $e/t1.plan "$log" 1
-answers 1 'refused 13, message 2 meets an earlier message' hold $e/t1.tsm $e/t1-meeting.plan "$log" 1
-answers 1 'refused 13, message 2 meets an earlier message' due $e/t1.tsm $e/t1-meeting.plan 1
+answers 1 'refused 24, the log must have an even count of words, found 13' hold $e/t1.tsm $e/t1.plan "$log" 1
+answers 1 "$meeting" hold $e/t1.tsm $e/t1-meeting.plan "$log" 1
+answers 1 "$meeting" due $e/t1.tsm $e/t1-meeting.plan 1
 wrong='not a whole number from 0 to 4,294,967,295: times are whole network time units (bit times), without a point or a unit'
 printf '0 1 # start\n50.5 16\n' >"$log"
 is_bad "log, line 2, column 1: $wrong" hold $e/t1.tsm $e/t1.plan "$log" 1

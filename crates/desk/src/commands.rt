@@ -5,7 +5,6 @@ use super::matrix;
 use super::tables;
 use checker::answer::Checked;
 use files::input;
-use files::reasons;
 use losses::answer::Lost;
 use planner::answer::Planned;
 use response::Responded;
@@ -80,7 +79,7 @@ fn show(view: View, file: &[u8], w: &[u32]) {
 fn show_proposal(view: View, file: &[u8], w: &[u32]) {
     let got = losses::losses(file, w);
     match got {
-        Lost::Refused(q) => reasons::refuse(q),
+        Lost::Refused(q) => reasons::of_file(q, file, w),
         Lost::Figures(t) => {
             show(view, file, w);
             paper::line(b"\nlosses over one matrix cycle");
@@ -94,7 +93,7 @@ fn check(file: &[u8], w: &[u32]) {
     let got = checker::check(file, w);
     match got {
         Checked::Accepted => paper::line(b"accepted"),
-        Checked::Refused(q) => reasons::refuse(q),
+        Checked::Refused(q) => reasons::of_file(q, file, w),
     }
 }
 
@@ -102,7 +101,7 @@ fn check(file: &[u8], w: &[u32]) {
 fn show_losses(file: &[u8], w: &[u32]) {
     let got = losses::losses(file, w);
     match got {
-        Lost::Refused(q) => reasons::refuse(q),
+        Lost::Refused(q) => reasons::of_file(q, file, w),
         Lost::Figures(t) => {
             paper::line(b"done");
             tables::bus_time(t);
@@ -115,7 +114,7 @@ fn fill_lists(file: &[u8], w: &[u32], lists: &mut [u32; triggers::MOST_WORDS]) -
     let got = triggers::lists(file, w, lists);
     match got {
         Listed::Refused(q) => {
-            reasons::refuse(q);
+            reasons::of_file(q, file, w);
             false
         }
         Listed::Lists(_) => true,
@@ -137,7 +136,7 @@ fn plan(file: &[u8]) {
     let mut proposal = [0u32; planner::PLAN_WORDS];
     let got = planner::plan(file, &mut proposal);
     match got {
-        Planned::Refused(q) => reasons::refuse(q),
+        Planned::Refused(q) => reasons::of_file(q, file, &[]),
         Planned::Proposal(n) => {
             let n = input::within(n, &proposal);
             show(View::Proposal, file, &proposal[..n]);
@@ -150,7 +149,7 @@ fn show_times(events: &[u32]) {
     let mut times = [0u32; 64];
     let got = response::responses(events, &mut times);
     match got {
-        Responded::Refused(q) => reasons::refuse(q),
+        Responded::Refused(q) => reasons::of_events(q, events),
         Responded::Done(misses) => {
             paper::line(b"done");
             tables::events(events, &times);
@@ -274,7 +273,7 @@ fn show_example(file: &[u8]) {
     let mut proposal = [0u32; planner::PLAN_WORDS];
     let got = planner::plan(file, &mut proposal);
     match got {
-        Planned::Refused(q) => reasons::refuse(q),
+        Planned::Refused(q) => reasons::of_file(q, file, &[]),
         Planned::Proposal(n) => {
             let n = input::within(n, &proposal);
             show_proposal(View::Example, file, &proposal[..n]);

@@ -3,7 +3,6 @@ use basics::FILL;
 use basics::wide;
 use files::input;
 use files::pieces;
-use files::reasons;
 use log::Difference;
 use log::Due;
 use log::Held;
@@ -99,21 +98,12 @@ fn show_pair(time: usize, identifier: usize) {
 
 // ---- answers
 
-// So many things, of this name.
-fn things(n: usize, one: &[u8]) {
-    paper::count(n);
-    paper::text(one);
-    if n != 1 {
-        paper::text(b"s");
-    }
-}
-
 // Says that the sends of so many matrix cycles are those that are due.
 fn show_clean(sends: usize, span: u32) {
     paper::text(b"clean: ");
-    things(sends, b" send");
+    paper::things(sends, b" send");
     paper::text(b" in ");
-    things(wide(span), b" matrix cycle");
+    paper::things(wide(span), b" matrix cycle");
     paper::end_line();
 }
 
@@ -201,7 +191,7 @@ fn show(view: View, file: &[u8], w: &[u32], sends: &[u32]) {
 fn hold(file: &[u8], w: &[u32], log: &[u32], span: u32) {
     let got = log::hold(file, w, log, span);
     match got {
-        Held::Refused(q) => reasons::refuse(q),
+        Held::Refused(q) => reasons::of_log(q, file, w, log.len(), span),
         Held::Clean => show_clean(log.len() / PAIR, span),
         Held::Differs(d) => show(View::Difference(d), file, w, log),
     }
@@ -212,7 +202,7 @@ pub fn show_due(file: &[u8], w: &[u32], span: u32) {
     let mut sends = [FILL; log::MOST_WORDS];
     let got = log::due(file, w, span, &mut sends);
     match got {
-        Due::Refused(q) => reasons::refuse(q),
+        Due::Refused(q) => reasons::of_log(q, file, w, 0, span),
         Due::Words(n) => {
             let n = input::within(n, &sends);
             show(View::List, file, w, &sends[..n]);

@@ -1,5 +1,4 @@
 // What the program is given: its arguments, and the files and word lists that they name. What cannot be read is said in one sentence on standard error.
-use super::reasons;
 use reader::answer::Read;
 use writer::Written;
 ghost use Prim.Native.Nat.{_<_, _≤_};
@@ -203,7 +202,7 @@ pub fn decoded(file: &[u8], words: &mut [u32]) -> usize
 {
     let got = reader::decode(file, words);
     let Read::Problem(n) = got else {
-        reasons::refuse(reader::answer::refusal_of(got));
+        reasons::of_file(reader::answer::refusal_of(got), file, &[]);
         return 0;
     };
     n
@@ -216,7 +215,7 @@ pub fn written(words: &[u32], bytes: &mut [u8]) -> Taken
     let got = writer::write(words, bytes);
     match got {
         Written::Refused(q) => {
-            reasons::refuse(q);
+            reasons::of_words(q, words);
             Taken {
                 is_good: false,
                 count: 0,

@@ -1,4 +1,3 @@
-// What the desk tool is given: problem files, word lists and logs, and the sentences that say why one is refused or cannot be read.
+// What the desk tool is given: problem files, word lists and logs, and what is said of one that cannot be read.
 pub mod input;
 pub mod pieces;
-pub mod reasons;

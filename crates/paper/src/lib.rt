@@ -35,6 +35,26 @@ pub fn count(n: usize) {
     io::print_decimal(1, n as u64);
 }
 
+// Writes text, and a count or a number behind it.
+pub fn text_count(s: &[u8], n: usize) {
+    text(s);
+    count(n);
+}
+
+pub fn text_number(s: &[u8], n: u32) {
+    text(s);
+    number(n);
+}
+
+// Writes so many things, of this name.
+pub fn things(n: usize, one: &[u8]) {
+    count(n);
+    text(one);
+    if n != 1 {
+        text(b"s");
+    }
+}
+
 // Writes so many spaces.
 pub fn spaces(n: usize) {
     let mut i: usize = 0;

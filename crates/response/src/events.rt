@@ -15,7 +15,7 @@ pub const MOST_EVENTS: usize = 64;
 const MOST_WORDS: usize = EVENT_WORDS * MOST_EVENTS;
 
 // No period is longer.
-const LONGEST_PERIOD: u32 = 4194304;
+pub const LONGEST_PERIOD: u32 = 4194304;
 
 // How many events the words are.
 pub(crate) fn count_of(events: &[u32]) -> usize

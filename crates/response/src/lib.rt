@@ -3,6 +3,7 @@ mod events;
 mod times;
 
 pub use events::EVENT_WORDS;
+pub use events::LONGEST_PERIOD;
 pub use events::MOST_EVENTS;
 use events::call_fault;
 use rules::Fault;
