@@ -33,6 +33,8 @@
     16      the output buffer is too short                                              0
     17      the event words are not five for each event, or more than 320               0
     18      a field of an event is wrong                                                the first such event
+    19      with an event and those of higher priority the bus does not come to         the first such event
+            rest within 16777216 bit times
     24      the log's words are odd in number, or the span is not 1 to 100 cycles       0 */
 #ifndef FFYNORWEL_H
 #define FFYNORWEL_H
@@ -80,8 +82,9 @@ void ffy_due(const uint8_t *file, size_t file_len, const uint32_t *proposal, siz
    Refuses with 1 to 8, 14 to 16. */
 void ffy_plan(const uint8_t *file, size_t file_len, uint32_t *proposal, size_t proposal_len, uint32_t answer[8]);
 
-/* Writes the response time of each event on a plain CAN bus, five words an event; 0 is a miss. Figure 0: how many misses.
-   Refuses with 16 to 18. */
+/* Writes the response time of each event on a plain CAN bus, five words an event: identifier, data bytes, period, jitter, deadline.
+   It is the longest response of all instances in the event's busy period; 0 is a miss. Figure 0: how many misses.
+   Refuses with 17, 18, 19, 16, tested in this order. */
 void ffy_responses(const uint32_t *events, size_t events_len, uint32_t *times, size_t times_len, uint32_t answer[8]);
 
 #ifdef __cplusplus

@@ -119,19 +119,31 @@ fn no_messages() {
     show::plan(b"no messages", problem, 0, b"");
 }
 
-// The events of the table, and a deadline that is one short of the response.
+// The events of the table by document 02's rule: the third's second instance is the worst, with 470.
 fn events() {
     show::responses(
         b"three events of 8 bytes",
         b"1 8 337 0 337  2 8 475 0 475  3 8 475 0 440",
-        b"270 405 405",
-        0,
+        b"270 405 0",
+        1,
     );
     show::responses(
         b"the third with deadline 404",
         b"1 8 337 0 337  2 8 475 0 475  3 8 475 0 404",
         b"270 405 0",
         1,
+    );
+    show::responses(
+        b"the third with deadline 469",
+        b"1 8 337 0 337  2 8 475 0 475  3 8 475 0 469",
+        b"270 405 0",
+        1,
+    );
+    show::responses(
+        b"the third with deadline 475",
+        b"1 8 337 0 337  2 8 475 0 475  3 8 475 0 475",
+        b"270 405 470",
+        0,
     );
 }
 

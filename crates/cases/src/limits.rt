@@ -1,4 +1,4 @@
-// The largest matrix, full, and a bus that has more to send than it can.
+// The largest matrix, full, and buses that are wanted whole, or more than that.
 use rules::words::MOST_WORDS;
 use trial::build;
 use trial::show;
@@ -139,19 +139,83 @@ fn full_lists(problem: &[u32], proposal: &[u8]) {
     );
 }
 
-// Two events that each want the whole bus, and one with the longest period and deadline.
-fn overload() {
+// A bus that is wanted just whole: it comes to rest if nothing blocks it and nothing is late.
+fn whole_bus() {
     show::responses(
-        b"two events that each want the whole bus, and one more",
-        b"1 8 135 0 135  2 8 135 0 135  3 8 4194304 0 4194304",
-        b"0 0 0",
-        3,
+        b"an event that takes the whole bus",
+        b"1 8 135 0 135",
+        b"135",
+        0,
+    );
+    show::responses_refused(
+        b"the same with a jitter of 1",
+        b"1 8 135 1 135",
+        show::LENT_TIMES,
+        [19, 0, 0],
+    );
+    show::responses_refused(
+        b"the same with another event, which blocks it",
+        b"1 8 135 0 135  2 0 4194304 0 4194304",
+        show::LENT_TIMES,
+        [19, 0, 0],
     );
 }
 
-// The full matrix, and the overloaded bus.
+// The longest busy period: frames are multiples of 5, so that none is 16,777,216, and the second event's is 16,777,215. With a jitter of one more it is 16,787,160.
+fn longest_busy() {
+    show::responses(
+        b"a busy period of 16777215",
+        b"1 6 117 0 117  2 3 4973 1687 4973",
+        b"0 1887",
+        1,
+    );
+    show::responses_refused(
+        b"the same with a longer one",
+        b"1 6 117 0 117  2 3 4973 1688 4973",
+        show::LENT_TIMES,
+        [19, 1, 0],
+    );
+    show::responses_refused(
+        b"the same with that event first",
+        b"2 3 4973 1688 4973  1 6 117 0 117",
+        show::LENT_TIMES,
+        [19, 0, 0],
+    );
+}
+
+// Two events that each want the whole bus, and one with the longest period and deadline.
+fn overload() {
+    show::responses_refused(
+        b"two events that each want the whole bus, and one more",
+        b"1 8 135 0 135  2 8 135 0 135  3 8 4194304 0 4194304",
+        show::LENT_TIMES,
+        [19, 0, 0],
+    );
+    show::responses_refused(
+        b"the same with a wrong event behind them",
+        b"1 8 135 0 135  2 8 135 0 135  3 9 4194304 0 4194304",
+        show::LENT_TIMES,
+        [18, 2, 0],
+    );
+    show::responses_refused(
+        b"the same with no room",
+        b"1 8 135 0 135  2 8 135 0 135  3 8 4194304 0 4194304",
+        0,
+        [19, 0, 0],
+    );
+    show::responses_refused(
+        b"an event that takes the whole bus, with no room",
+        b"1 8 135 0 135",
+        0,
+        [16, 0, 0],
+    );
+}
+
+// The full matrix, and buses at their limit and above.
 pub fn run() {
     paper::text(b"Limits\n");
     full();
+    whole_bus();
+    longest_busy();
     overload();
 }

@@ -1,6 +1,6 @@
--- What is wrong with events, step by step as the code finds it, and that the tests find nothing exactly where the record of rules is kept.
+-- What is wrong with a call, step by step as the code finds it, and that the tests find nothing exactly where the record of rules is kept.
 use Prim.Native.Nat.{ℕ, _%_, _<_, _≤_}
-use mathlib.Core.Path.{_≡_, refl, sym}
+use mathlib.Core.Path.{_≡_, refl, sym, _∙_}
 use mathlib.Core.Bool.{Bool, true, false, not, _||_}
 use mathlib.Core.List.{List}
 use native.Mathlib.Omega.{arith}
@@ -9,15 +9,25 @@ use lib.Dec.{eqb, ltb}
 use borrow.Author.Tests.{lt-ltb, le-ltb, lt-leb, eq-eqb, ne-eqb, eqb-true, eqb-false, ltb-false, leb-false, not-false}
 use Rattle.basics.proofs.Tests.{or-false, within, inside, some-off, some-none}
 use Rattle.rules.specs.declared.Refusal.{Refusal}
-use Rattle.rules.specs.declared.Refusal.the-variants.{EventWords, Event, Room}
+use Rattle.rules.specs.declared.Refusal.the-variants.{EventWords, Event, Endless, Room}
 use Rattle.rules.specs.declared.Fault.{Fault}
 use Rattle.rules.specs.declared.Fault.the-variants.{Clear, Bad}
-use Rattle.rules.specs.Refusal.{firstFault}
+use Rattle.rules.specs.Refusal.{_⊕_, firstFault}
+use Rattle.rules.specs.Paper.{roomFault}
 use Rattle.rules.proofs.Faults.{clear-guard, clear-both, first-clear, clear-first}
 use Rattle.response.specs.Events.{eventWords, mostWords, longestPeriod, count, identifier, size, period, jitter, deadline, Rules, Whole, Sound}
-use Rattle.response.specs.Events.{fieldsWrong, repeated, eventWrong, wordsWrong, eventFault, eventsFault, callFault}
+use Rattle.response.specs.Events.{fieldsWrong, repeated, eventWrong, wordsWrong, eventFault, eventsFault}
+use Rattle.response.specs.Times.{endless}
+use Rattle.response.specs.Promise.{endlessFault, callFault}
+use Rattle.response.specs.Parts.{Ready}
 
 -- ---- the code's steps
+pub room-bad : {n room : ℕ} → room < n → Bad Room ≡ roomFault n room
+room-bad {n} {room} l = rw (lt-ltb room n l)
+
+pub room-clear : {n room : ℕ} → n ≤ room → Clear ≡ roomFault n room
+room-clear {n} {room} l = rw (le-ltb room n l)
+
 -- from the words as they were read
 pub wrong-is :
     (e : List ℕ) (j : ℕ) {i s t w d : ℕ} {fields again : Bool} →
@@ -31,6 +41,12 @@ fault-bad e j h = rw h
 
 pub fault-clear : (e : List ℕ) (j : ℕ) → eventWrong e j ≡ false → eventFault e j ≡ Clear
 fault-clear e j h = rw h
+
+pub endless-bad : (e : List ℕ) (j : ℕ) → endless e j ≡ true → endlessFault e j ≡ Bad (Endless j)
+endless-bad e j h = rw h
+
+pub endless-clear : (e : List ℕ) (j : ℕ) → endless e j ≡ false → endlessFault e j ≡ Clear
+endless-clear e j h = rw h
 
 module _ (e : List ℕ) where
   pub events-words : wordsWrong (length e) ≡ true → Bad EventWords ≡ eventsFault e
@@ -46,15 +62,12 @@ module _ (e : List ℕ) where
     unfolding callFault
     call-events h = rw (← is, h)
 
-    pub call-room : f ≡ Clear → room < count e → Bad Room ≡ callFault e room
+    -- where the events have none, it is the first of the other two
+    pub call-rest : {g h r : Fault} {n : ℕ} → f ≡ Clear → g ≡ firstFault (count e) (endlessFault e) → n ≡ count e → h ≡ roomFault n room → r ≡ g ⊕ h → r ≡ callFault e room
     unfolding callFault
-    call-room h l = rw (← is, h, lt-ltb room (count e) l)
+    call-rest c g n h r = r ∙ rw (← is, c, g, h, n)
 
-    pub call-nothing : f ≡ Clear → count e ≤ room → Clear ≡ callFault e room
-    unfolding callFault
-    call-nothing h l = rw (← is, h, le-ltb room (count e) l)
-
--- ---- the tests find nothing exactly where the record is kept: of the words, of event j, of events and of a call
+-- ---- the tests find nothing exactly where the record is kept: of the words, of event j, of events, of their busy periods and of a call
 module _ (e : List ℕ) where
   pub clear-whole : wordsWrong (length e) ≡ false → Whole e
   clear-whole h =
@@ -116,12 +129,20 @@ module _ (e : List ℕ) where
         first-clear (count e) (eventFault e) (λ j l. fault-clear e j (rules-clear j (s .rules j l))),
       )
 
-  module _ (room : ℕ) where
-    pub clear-call : callFault e room ≡ Clear → Sound e × (count e ≤ room)
-    unfolding callFault
-    clear-call h =
-        let p = clear-both _ _ h in
-        (clear-sound (p .0), ltb-false _ _ (clear-guard _ _ (p .1)))
+  pub ended-clear : ((j : ℕ) → j < count e → endless e j ≡ false) → firstFault (count e) (endlessFault e) ≡ Clear
+  ended-clear h = first-clear (count e) (endlessFault e) (λ j l. endless-clear e j (h j l))
 
-    pub call-clear : Sound e → count e ≤ room → callFault e room ≡ Clear
-    call-clear s l = sym (call-nothing e room (sym (sound-clear s)) refl l)
+  module _ (room : ℕ) where
+    pub clear-ready : callFault e room ≡ Clear → Ready e room
+    unfolding callFault
+    clear-ready h =
+        let p = clear-both _ _ h in
+        let q = clear-both _ _ (p .1) in
+        record {
+          sound = clear-sound (p .0);
+          ended = λ j l. clear-guard (endless e j) (Endless j) (clear-first (count e) (endlessFault e) (q .0) j l);
+          fits = ltb-false _ _ (clear-guard _ _ (q .1));
+        }
+
+    pub ready-clear : Ready e room → callFault e room ≡ Clear
+    ready-clear r = sym (call-rest e room (sym (sound-clear (r .sound))) refl (sym (ended-clear (r .ended))) refl (room-clear (r .fits)) refl)

@@ -1,9 +1,13 @@
 pub mod Faults
 pub mod Refusals
 pub mod Queue
+pub mod Turns
+pub mod Spans
+pub mod Instances
 pub mod Waiting
 pub mod Figures
 pub mod Filling
 pub mod Results
+pub mod FirstInstance
 pub mod Computed
 pub mod Worked

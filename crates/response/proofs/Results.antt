@@ -6,18 +6,21 @@ use native.Mathlib.Decide.{decLt}
 use native.Mathlib.Omega.{arith}
 use lib.ListN.{length, getD}
 use lib.Seq.{ext-getD}
-use Rattle.basics.proofs.Fixed.{least-unique}
 use Rattle.rules.specs.declared.Refusal.{Refusal}
 use Rattle.rules.specs.declared.Fault.{Fault}
 use Rattle.rules.specs.declared.Fault.the-variants.{Clear, Bad}
 use Rattle.rules.specs.Paper.{figureFor}
-use Rattle.rules.proofs.Told.{Told, answered, refusing, told-one}
+use Rattle.rules.specs.declared.Paper.{Paper}
+use Rattle.rules.proofs.Told.{Told, answered, refusing, told-one, done-clear}
 use Rattle.response.specs.declared.Responded.{Responded}
 use Rattle.response.specs.declared.Responded.the-variants.{Done, Refused}
 use Rattle.response.specs.Answer.{paper, misses}
-use Rattle.response.specs.Events.{count, callFault}
+use Rattle.response.specs.Events.{count}
 use Rattle.response.specs.Times.{Written, met, missed}
-use Rattle.response.specs.Promise.{zeros, TimesWritten, Responding}
+use Rattle.response.specs.Promise.{callFault, zeros, TimesWritten, Responding}
+use Rattle.response.specs.Parts.{Ready}
+use Rattle.response.proofs.Faults.{clear-ready}
+use Rattle.response.proofs.Instances.{response-one}
 use Rattle.response.proofs.Filling.{times-none}
 
 -- ---- the code's two ends, with the fault that it found
@@ -33,11 +36,11 @@ module _ (e d : List ℕ) {f : Fault} (is : f ≡ callFault e (length d)) where
   responding-done h t z = record { paper-is = rw (← is, h); misses-is = rw (← is, h) z; times-are = rw (← is, h) t }
 
 -- ---- the word of an event is settled
-pub written-one : {e : List ℕ} {i s t : ℕ} → Written e i s → Written e i t → s ≡ t
-written-one (met v a b c) (met w f g h) = let q = least-unique a f in omega arith
-written-one (met v a b c) (missed f g) = absurd (let q = f v a in omega arith)
-written-one (missed f g) (met v a b c) = absurd (let q = f v a in omega arith)
-written-one (missed a b) (missed f g) = b ∙ sym g
+pub written-one : {e : List ℕ} {i x y : ℕ} → Written e i x → Written e i y → x ≡ y
+written-one (met t q a b) (met u p c d) = response-one a c .2
+written-one (met t q a b) (missed u p r c d z) = absurd (omega (arith, response-one a c .2))
+written-one (missed t q r a b z) (met u p c d) = absurd (omega (arith, response-one a c .2))
+written-one (missed t q r a b z) (missed u p s c d y) = z ∙ sym y
 
 -- and so is the buffer
 module _ {e d x y : List ℕ} {n : ℕ} (a : TimesWritten e d x n) (b : TimesWritten e d y n) where
@@ -65,3 +68,7 @@ responding-one {e} {d} {x} {y} {r} {s} a b =
 -- a refusal leaves the buffer as it was
 pub refused-keeps : {e d x : List ℕ} {r : Responded} {q : Refusal} → callFault e (length d) ≡ Bad q → Responding e d x r → x ≡ d
 refused-keeps {e} {d} h p = times-one (rw h at (p .times-are)) (times-none e d)
+
+-- a call that is done had events that keep the rules and have busy periods, and room
+pub responding-ready : {e d x : List ℕ} {m : ℕ} → Responding e d x (Done m) → Ready e (length d)
+responding-ready {e} {d} p = clear-ready e (length d) (done-clear (callFault e (length d)) (ap (λ (t : Paper). t .number) (sym (p .paper-is))))

@@ -1,4 +1,4 @@
--- Events, as a list of words, five each: the words by name, the rules that they keep, and what is wrong with a call whose events break one.
+-- Events, as a list of words, five each: the words by name, the rules that they keep, and what is wrong with events that break one.
 use Prim.Native.Nat.{ℕ, _+_, _*_, _/_, _%_, _<_, _≤_}
 use mathlib.Core.Path.{_≡_}
 use mathlib.Core.Bool.{Bool, not, _||_}
@@ -8,7 +8,6 @@ use lib.Dec.{ltb, leb, eqb}
 use Rattle.basics.specs.Tests.{outside, some}
 use Rattle.rules.specs.declared.Refusal.the-variants.{EventWords, Event}
 use Rattle.rules.specs.declared.Fault.{Fault}
-use Rattle.rules.specs.Paper.{roomFault}
 use Rattle.rules.specs.Refusal.{guard, _⊕_, firstFault}
 
 -- ---- document 01's numbers
@@ -92,12 +91,9 @@ eventWrong e j = fieldsWrong (identifier e j) (size e j) (period e j) (jitter e 
 abbrev pub wordsWrong : ℕ → Bool
 wordsWrong n = not (eqb (n % eventWords) 0) || ltb mostWords n
 
--- ---- what is wrong: with event j, with events, and with a call that has room for so many times
+-- ---- what is wrong: with event j, and with events
 abbrev pub eventFault : List ℕ → ℕ → Fault
 eventFault e j = guard (eventWrong e j) (Event j)
 
 unfoldable pub eventsFault : List ℕ → Fault
 eventsFault e = guard (wordsWrong (length e)) EventWords ⊕ firstFault (count e) (eventFault e)
-
-unfoldable pub callFault : List ℕ → ℕ → Fault
-callFault e room = eventsFault e ⊕ roomFault (count e) room

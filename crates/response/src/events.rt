@@ -5,7 +5,7 @@ use rules::Refusal;
 ghost use mathlib.Core.Path.{_≡_};
 ghost use Prim.Native.Nat.{_<_};
 ghost use Rattle.rules.specs.Refusal.{firstFault};
-ghost use Rattle.response.specs.Events.{eventWords, count, field, Gives, Whole, fieldsWrong, repeated, eventWrong, wordsWrong, eventFault, eventsFault, callFault};
+ghost use Rattle.response.specs.Events.{eventWords, count, field, Gives, Whole, fieldsWrong, repeated, eventWrong, wordsWrong, eventFault, eventsFault};
 
 // So many words are an event, and a call takes at most so many events.
 pub const EVENT_WORDS: usize = 5;
@@ -16,6 +16,17 @@ const MOST_WORDS: usize = EVENT_WORDS * MOST_EVENTS;
 
 // No period is longer.
 pub const LONGEST_PERIOD: u32 = 4194304;
+
+// Where each of an event's words stands.
+pub const IDENTIFIER: usize = 0;
+
+pub const DATA: usize = 1;
+
+pub const PERIOD: usize = 2;
+
+pub const JITTER: usize = 3;
+
+pub const DEADLINE: usize = 4;
 
 // How many events the words are.
 pub(crate) fn count_of(events: &[u32]) -> usize
@@ -48,10 +59,10 @@ fn is_repeated(events: &[u32], j: usize) -> bool
     requires { ⌜ Gives (now events) j ⌝ }
     ensures { λ r. ⌜ r ≡ repeated (now (events .entry)) j ⌝ }
 {
-    let id = word(events, j, 0);
+    let id = word(events, j, IDENTIFIER);
     let mut i: usize = 0;
     while i < j {
-        if word(events, i, 0) == id {
+        if word(events, i, IDENTIFIER) == id {
             return true;
         }
         i += 1;
@@ -64,11 +75,11 @@ fn event_wrong(events: &[u32], j: usize) -> bool
     requires { ⌜ Gives (now events) j ⌝ }
     ensures { λ r. ⌜ r ≡ eventWrong (now (events .entry)) j ⌝ }
 {
-    let id = word(events, j, 0);
-    let size = word(events, j, 1);
-    let period = word(events, j, 2);
-    let jitter = word(events, j, 3);
-    let deadline = word(events, j, 4);
+    let id = word(events, j, IDENTIFIER);
+    let size = word(events, j, DATA);
+    let period = word(events, j, PERIOD);
+    let jitter = word(events, j, JITTER);
+    let deadline = word(events, j, DEADLINE);
     fields_wrong(id, size, period, jitter, deadline) | is_repeated(events, j)
 }
 
@@ -96,25 +107,11 @@ fn words_wrong(n: usize) -> bool
 }
 
 // What is wrong with the events: how many words they are, or the first that breaks a rule.
-fn events_fault(events: &[u32]) -> Fault
+pub(crate) fn events_fault(events: &[u32]) -> Fault
     ensures { λ r. ⌜ r ≡ eventsFault (now (events .entry)) ⌝ }
 {
     if words_wrong(events.len()) {
         return Fault::Bad(Refusal::EventWords);
     }
     first_fault(events)
-}
-
-// What is wrong with a call that has room for so many times: its events, or that the room is too little.
-pub(crate) fn call_fault(events: &[u32], room: usize) -> Fault
-    ensures { λ r. ⌜ r ≡ callFault (now (events .entry)) room ⌝ }
-{
-    let fault = events_fault(events);
-    if let Fault::Bad(refusal) = fault {
-        return Fault::Bad(refusal);
-    }
-    if room < count_of(events) {
-        return Fault::Bad(Refusal::Room);
-    }
-    Fault::Clear
 }

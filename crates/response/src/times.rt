@@ -1,152 +1,103 @@
-// The response times of events that keep the rules. A demand can be above 32 bits, so every figure is a usize.
+// The response times of events from their busy periods.
+use super::busy::LONGEST_BUSY;
+use super::busy::busy_of;
+use super::demand::arrivals_of;
+use super::demand::blocking_of;
+use super::demand::deadline_of;
+use super::demand::demand_of;
+use super::demand::frame_of;
+use super::demand::jitter_of;
+use super::demand::period_of;
+use super::events::LONGEST_PERIOD;
 use super::events::count_of;
-use super::events::word;
 use basics::wide;
-use rules::words::frame_bits;
 ghost use mathlib.Core.Path.{_≡_};
-ghost use Prim.Native.Nat.{_<_, _≤_, max};
+ghost use mathlib.Core.Bool.{false};
+ghost use Prim.Native.Nat.{_≤_};
 ghost use lib.ListN.{length};
-ghost use Rattle.response.specs.Events.{longestPeriod, Sound, count, identifier, period, jitter, deadline};
-ghost use Rattle.response.specs.Times.{wins, takes, blockedBy, blocking, ceiling, interference, demand, Written};
+ghost use Rattle.response.specs.Events.{Sound, count};
+ghost use Rattle.response.specs.Times.{endless, Response, Written};
 ghost use Rattle.response.specs.Promise.{miss, zeros, TimesWritten};
-ghost use Rattle.response.specs.Parts.{Member, Figure, shortestFrame, longestFrame, longestSpan, mostArrivals, mostInterference, mostDemand};
+ghost use Rattle.response.specs.Parts.{Member, Figure, Span, Spans, Worse, Sought};
 
-// Event j's identifier.
-fn identifier_of(events: &[u32], j: usize) -> u32
-    requires { ⌜ Member (now events) j ⌝ }
-    ensures { λ r. ⌜ r ≡ identifier (now (events .entry)) j ⌝ }
-{
-    word(events, j, 0)
+// How long an event's busy period is, the longest response of the instances in it, and the first instance that has it.
+pub struct Worst {
+    pub span: usize,
+    pub instance: usize,
+    pub response: usize,
 }
 
-// Event j's period.
-fn period_of(events: &[u32], j: usize) -> usize
-    requires { ⌜ Member (now events) j ⌝ }
-    ensures { λ r. ⌜ Figure (period (now (events .entry)) j) 1 longestPeriod r ⌝ }
+// What was the worst before instance q, or that instance if its response is longer.
+fn worse(worst: Worst, q: usize, response: usize) -> Worst
+    ensures { λ r. ⌜ Worse worst q response r ⌝ }
 {
-    wide(word(events, j, 2))
-}
-
-// Event j's jitter.
-fn jitter_of(events: &[u32], j: usize) -> usize
-    requires { ⌜ Member (now events) j ⌝ }
-    ensures { λ r. ⌜ Figure (jitter (now (events .entry)) j) 0 longestPeriod r ⌝ }
-{
-    wide(word(events, j, 3))
-}
-
-// Event j's deadline.
-fn deadline_of(events: &[u32], j: usize) -> usize
-    requires { ⌜ Member (now events) j ⌝ }
-    ensures { λ r. ⌜ Figure (deadline (now (events .entry)) j) 1 longestPeriod r ⌝ }
-{
-    wide(word(events, j, 4))
-}
-
-// How long a frame of event j takes.
-fn frame_of(events: &[u32], j: usize) -> usize
-    requires { ⌜ Member (now events) j ⌝ }
-    ensures { λ r. ⌜ Figure (takes (now (events .entry)) j) shortestFrame longestFrame r ⌝ }
-{
-    frame_bits(wide(word(events, j, 1)))
-}
-
-// Whether event j has a higher priority than event i.
-fn wins_over(events: &[u32], j: usize, i: usize) -> bool
-    requires { ⌜ Member (now events) j × Member (now events) i ⌝ }
-    ensures { λ r. ⌜ r ≡ wins (now (events .entry)) j i ⌝ }
-{
-    identifier_of(events, j) < identifier_of(events, i)
-}
-
-// How long a frame of event j, once it is on the bus, can keep event i off it.
-fn blocked_by(events: &[u32], i: usize, j: usize) -> usize
-    requires { ⌜ Member (now events) i × Member (now events) j ⌝ }
-    ensures { λ r. ⌜ Figure (blockedBy (now (events .entry)) i j) 0 longestFrame r ⌝ }
-{
-    if wins_over(events, i, j) {
-        return frame_of(events, j);
+    if worst.response < response {
+        return Worst {
+            span: worst.span,
+            instance: q,
+            response,
+        };
     }
-    0
+    worst
 }
 
-// The larger of two.
-fn larger(a: usize, b: usize) -> usize
-    ensures { λ r. ⌜ r ≡ max a b ⌝ }
+// The worst of event i in its busy period, or the first instance whose response is above the limit. At each turn w climbs, or it is an instance's queuing
+// time and the next instance waits at least a frame longer.
+fn worst_within(events: &[u32], i: usize, span: usize, limit: usize) -> Worst
+    requires { ⌜ Member (now events) i × Span (now events) i span ⌝ }
+    ensures { λ r. ⌜ Sought (now (events .entry)) i span limit r ⌝ }
 {
-    if a < b {
-        return b;
+    let frame = frame_of(events, i);
+    let period = period_of(events, i);
+    let own = jitter_of(events, i) + frame;
+    let instances = arrivals_of(events, i, span);
+    let mut worst = Worst {
+        span,
+        instance: 0,
+        response: 0,
+    };
+    let mut ahead = blocking_of(events, i);
+    let mut released: usize = 0;
+    let mut w = ahead;
+    let mut q: usize = 0;
+    while q < instances {
+        let next = ahead + demand_of(events, i, w + 1);
+        if next != w {
+            w = next;
+            continue;
+        }
+        worst = worse(worst, q, own + w - released);
+        if limit < worst.response {
+            return worst;
+        }
+        ahead += frame;
+        released += period;
+        w += frame;
+        q += 1;
     }
-    a
+    worst
 }
 
-// The longest frame of lower priority than event i's.
-fn blocking_of(events: &[u32], i: usize) -> usize
-    requires { ⌜ Member (now events) i ⌝ }
-    ensures { λ r. ⌜ Figure (blocking (now (events .entry)) i) 0 longestFrame r ⌝ }
+// The worst of event i.
+pub fn worst_of(events: &[u32], i: usize) -> Worst
+    requires { ⌜ Member (now events) i × (endless (now events) i ≡ false) ⌝ }
+    ensures { λ r. ⌜ Response (now (events .entry)) i (r .span) (r .instance) (r .response) ⌝ }
 {
-    let n = count_of(events);
-    let mut most: usize = 0;
-    let mut j: usize = 0;
-    while j < n {
-        most = larger(most, blocked_by(events, i, j));
-        j += 1;
-    }
-    most
+    let span = wide(busy_of(events, i));
+    worst_within(events, i, span, LONGEST_BUSY + wide(LONGEST_PERIOD))
 }
 
-// a / b, rounded up; divided as words, which is quicker.
-fn ceiling_of(a: usize, b: usize) -> usize
-    requires { ⌜ (a ≤ mostArrivals) × (1 ≤ b) × (b ≤ longestPeriod) ⌝ }
-    ensures { λ r. ⌜ Figure (ceiling a b) 0 mostArrivals r ⌝ }
-{
-    wide((a + (b - 1)) as u32 / b as u32)
-}
-
-// How long the frames of event j take that can be queued within a span and go before event i's.
-fn interference_of(events: &[u32], i: usize, j: usize, span: usize) -> usize
-    requires { ⌜ Member (now events) i × Member (now events) j × (span ≤ longestSpan) ⌝ }
-    ensures { λ r. ⌜ Figure (interference (now (events .entry)) i span j) 0 mostInterference r ⌝ }
-{
-    if wins_over(events, j, i) {
-        let arrivals = ceiling_of(span + jitter_of(events, j), period_of(events, j));
-        return frame_of(events, j) * arrivals;
-    }
-    0
-}
-
-// How long all frames of higher priority than event i's take that can be queued within a span.
-fn demand_of(events: &[u32], i: usize, span: usize) -> usize
-    requires { ⌜ Member (now events) i × (span ≤ longestSpan) ⌝ }
-    ensures { λ r. ⌜ Figure (demand (now (events .entry)) i span) 0 mostDemand r ⌝ }
-{
-    let n = count_of(events);
-    let mut total: usize = 0;
-    let mut j: usize = 0;
-    while j < n {
-        total += interference_of(events, i, j, span);
-        j += 1;
-    }
-    total
-}
-
-// Event i's response time, or 0 if it misses its deadline: w climbs from the blocking to the queuing time, unless the response is late before.
-fn time_of(events: &[u32], i: usize) -> u32
-    requires { ⌜ Member (now events) i ⌝ }
+// Event i's response time, from its busy period, or 0 if it misses its deadline.
+fn time_of(events: &[u32], i: usize, span: usize) -> u32
+    requires { ⌜ Member (now events) i × Span (now events) i span ⌝ }
     ensures { λ r. ⌜ Written (now (events .entry)) i r ⌝ }
 {
-    let blocked = blocking_of(events, i);
-    let own = jitter_of(events, i) + frame_of(events, i);
-    let due = deadline_of(events, i);
-    let mut w = blocked;
-    while own + w <= due {
-        let next = blocked + demand_of(events, i, w + 1);
-        if next == w {
-            return (own + w) as u32;
-        }
-        w = next;
+    let deadline = deadline_of(events, i);
+    let worst = worst_within(events, i, span, deadline);
+    if deadline < worst.response {
+        return 0;
     }
-    0
+    worst.response as u32
 }
 
 // 1 for a time that is 0.
@@ -159,16 +110,16 @@ fn miss_of(t: u32) -> u32
     0
 }
 
-// Writes every event's time, and answers how many of them are 0.
-pub(crate) fn fill(events: &[u32], times: &mut [u32]) -> u32
-    requires { ⌜ Sound (now events) × (count (now events) ≤ length (now times)) ⌝ }
+// Writes every event's time, from its busy period, and answers how many of them are 0.
+pub(crate) fn fill(events: &[u32], spans: &[u32], times: &mut [u32]) -> u32
+    requires { ⌜ Sound (now events) × Spans (now events) (now spans) (count (now events)) × (count (now events) ≤ length (now spans)) × (count (now events) ≤ length (now times)) ⌝ }
     ensures { λ r. ⌜ TimesWritten (now (events .entry)) (now (times .entry)) (now (times .exit)) (count (now (events .entry))) × (r ≡ zeros (now (times .exit)) (count (now (events .entry)))) ⌝ }
 {
     let n = count_of(events);
     let mut misses: u32 = 0;
     let mut i: usize = 0;
     while i < n {
-        let t = time_of(events, i);
+        let t = time_of(events, i, wide(spans[i]));
         times[i] = t;
         misses += miss_of(t);
         i += 1;

@@ -28,7 +28,7 @@ use Rattle.losses.specs.Losses.{reference, used, inWindow, empty, inColumn, cov
 use Rattle.losses.proofs.Sum.{losses-sum}
 use Rattle.response.specs.Promise.{zeros}
 use Rattle.response.specs.Events.{count, repeated as repeatedEvent, eventWrong, eventsFault}
-use Rattle.response.proofs.Computed.{seek as seekTime, time, times, computed}
+use Rattle.response.proofs.Computed.{climb, span, worse, seek as seekWorst, worst, time, times, spansFault, computed}
 use Rattle.tables.specs.Cases.{Case, lasts, plans, plans-none, loses, accepts, refuses, responds, Says}
 use Rattle.tables.specs.Starred.{t1, two, none as noMessage, events, starred}
 
@@ -91,7 +91,7 @@ holds (loses p w a b c d e) =
 holds (accepts p w) = wellFormed p && isClear (proposalFault p w)
 holds (refuses p w n j i) = wellFormed p && isAt (paperOf (proposalFault p w)) n j i
 holds (responds e t m) =
-    isClear (eventsFault e) && (same (times e ++ drop (count e) (replicate (count e) 0)) t && eqb (zeros (times e) (count e)) m)
+    isClear (eventsFault e) && (isClear (spansFault e) && (same (times e ++ drop (count e) (replicate (count e) 0)) t && eqb (zeros (times e) (count e)) m))
 
 holds-says : (x : Case) → T (holds x) → Says x
 unfolding holds
@@ -137,9 +137,12 @@ holds-says (responds e t m) h =
     let d : List ℕ = replicate (count e) 0 in
     let x : List ℕ = times e ++ drop (count e) d in
     let z : ℕ = zeros (times e) (count e) in
-    let h₁ = right (isClear (eventsFault e)) (same x t && eqb z m) h in
-    computed e d (omega (arith, length-replicate {A = ℕ} (count e) 0)) (clear-is (eventsFault e) (left (isClear (eventsFault e)) (same x t && eqb z m) h))
-    (same-is x t (left (same x t) (eqb z m) h₁)) (eqb→eq z m (right (same x t) (eqb z m) h₁))
+    let written : Bool = same x t && eqb z m in
+    let h₁ = right (isClear (eventsFault e)) (isClear (spansFault e) && written) h in
+    let h₂ = right (isClear (spansFault e)) written h₁ in
+    computed e d (omega (arith, length-replicate {A = ℕ} (count e) 0))
+    (clear-is (eventsFault e) (left (isClear (eventsFault e)) (isClear (spansFault e) && written) h)) (clear-is (spansFault e) (left (isClear (spansFault e)) written h₁))
+    (same-is x t (left (same x t) (eqb z m) h₂)) (eqb→eq z m (right (same x t) (eqb z m) h₂))
 
 -- ---- the table
 unfoldable all-hold : List Case → Bool
@@ -158,9 +161,9 @@ each (y ∷ l) t x m =
 table-holds : T (all-hold starred)
 unfolding all-hold starred holds t1 two noMessage events same problemFault headerFault wordsFault columnWrong earliest identityWrong repeated timingWrong onGrid overloaded triggers someOf sum bit
     proposalFault firstFault fault ownFault inRange fits wait timely meetingFault meets common used sendAt startsAt occupied inWindow empty inColumn covered uncovered
-    eventsFault eventWrong repeatedEvent largest seekTime time times
+    eventsFault eventWrong repeatedEvent largest spansFault climb span worse seekWorst worst time times
 table-holds = tt
 
--- every starred case of document 01 says what is true
+-- every starred case says what is true
 pub starred-true : (x : Case) → List·Memᴰ x starred → Says x
 starred-true = each starred table-holds

@@ -1,4 +1,4 @@
--- Document 01's starred cases, as one table.
+-- Document 01's starred cases, as one table. Of the response times document 02 c) decides: all instances of the busy period count.
 use Prim.Native.Nat.{ℕ}
 use mathlib.Core.List.{List, [], _∷_}
 use Rattle.tables.specs.Cases.{Case, lasts, plans, plans-none, loses, accepts, refuses, responds}
@@ -38,6 +38,7 @@ starred =
     ∷ plans two (1 ∷ 0 ∷ 0 ∷ 0 ∷ [])
     ∷ accepts none []
     ∷ refuses (t1 300) (0 ∷ 0 ∷ 1 ∷ 1 ∷ 1 ∷ 1 ∷ []) 13 2 1
-    ∷ responds (events 440) (270 ∷ 405 ∷ 405 ∷ []) 0
     ∷ responds (events 404) (270 ∷ 405 ∷ 0 ∷ []) 1
+    ∷ responds (events 440) (270 ∷ 405 ∷ 0 ∷ []) 1
+    ∷ responds (events 475) (270 ∷ 405 ∷ 470 ∷ []) 0
     ∷ []

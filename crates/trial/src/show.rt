@@ -18,6 +18,7 @@ use writer::Written;
 ghost use Prim.Native.Nat.{_≤_};
 ghost use lib.ListN.{length};
 ghost use Rattle.io.specs.Counts.{Counts};
+ghost use Rattle.response.specs.Events.{mostEvents};
 
 // The most words that a case wants as text.
 const WANTED_WORDS: usize = 256;
@@ -26,6 +27,9 @@ const WANTED_WORDS: usize = 256;
 pub const LENT_WORDS: usize = 1208;
 
 const BEFORE: u32 = 7;
+
+// The words that are lent for response times: one for each event of the most.
+pub const LENT_TIMES: usize = MOST_EVENTS;
 
 // The number and the places of an answer that is no refusal.
 pub const NONE: [u32; 3] = [0; 3];
@@ -89,6 +93,23 @@ fn end_refused(q: Refusal, wanted: [u32; 3]) {
     paper::text(b", places ");
     paper::words(&is[1..]);
     end(is_same(&is, &wanted));
+}
+
+// Whether a lent buffer is as it was from a place on.
+fn is_kept(words: &[u32], from: usize) -> bool {
+    let mut i = from;
+    while i < words.len() && words[i] == BEFORE {
+        i += 1;
+    }
+    words.len() <= i
+}
+
+// Shows a refusal, and if it wrote to the buffer that was lent.
+fn end_kept(q: Refusal, lent: &[u32], wanted: [u32; 3]) {
+    if !is_kept(lent, 0) {
+        paper::text(b"written to, ");
+    }
+    end_refused(q, wanted);
 }
 
 // Whether words start with those of a text.
@@ -210,7 +231,7 @@ pub fn lists(title: &[u8], problem: &[u32], proposal: &[u8], count: usize, wante
 pub fn responses(title: &[u8], events: &[u8], wanted: &[u8], misses: u32) {
     let mut e = [0u32; MOST_EVENTS * EVENT_WORDS];
     let n = build::words(events, &mut e);
-    let mut times = [0u32; MOST_EVENTS];
+    let mut times = [0u32; LENT_TIMES];
     start(title, b", response times: ");
     let got = response::responses(&e[..n], &mut times);
     match got {
@@ -222,6 +243,31 @@ pub fn responses(title: &[u8], events: &[u8], wanted: &[u8], misses: u32) {
             end(is_text(came, wanted) & (missed == misses));
         }
         Responded::Refused(q) => end_refused(q, NONE),
+    }
+}
+
+// Has response times written into so many words at the front of a buffer.
+fn write_times(events: &[u32], room: usize, times: &mut [u32]) -> Responded
+    requires { ⌜ room ≤ length (now times) ⌝ }
+{
+    response::responses(events, &mut times[..room])
+}
+
+// Response times refused, with so much room for them: the number and the place that the document wants.
+pub fn responses_refused(title: &[u8], events: &[u8], room: usize, wanted: [u32; 3])
+    requires { ⌜ room ≤ mostEvents ⌝ }
+{
+    let mut e = [0u32; MOST_EVENTS * EVENT_WORDS];
+    let n = build::words(events, &mut e);
+    let mut times = [BEFORE; LENT_TIMES];
+    start(title, b", response times: ");
+    let got = write_times(&e[..n], room, &mut times);
+    match got {
+        Responded::Done(_) => {
+            paper::text(b"done");
+            end(wanted[0] == 0);
+        }
+        Responded::Refused(q) => end_kept(q, &times, wanted),
     }
 }
 
@@ -329,15 +375,6 @@ fn is_clean(file: &[u8], proposal: &[u32], log: &[u32], span: u32) -> bool {
     }
 }
 
-// Whether a lent buffer is as it was from a place on.
-fn is_kept(words: &[u32], from: usize) -> bool {
-    let mut i = from;
-    while i < words.len() && words[i] == BEFORE {
-        i += 1;
-    }
-    words.len() <= i
-}
-
 // Has the list that is due written into so many words at the front of a buffer.
 fn write_due(file: &[u8], proposal: &[u32], span: u32, room: usize, list: &mut [u32]) -> Due
     requires { ⌜ room ≤ length (now list) ⌝ }
@@ -372,11 +409,6 @@ pub fn due(
             let is_right = is_same(came, wanted) & is_clean(&file[..n], &w[..m], came, span);
             end((number == 0) & is_right & is_kept(&list, k));
         }
-        Due::Refused(q) => {
-            if !is_kept(&list, 0) {
-                paper::text(b"written to, ");
-            }
-            end_refused(q, [number, 0, 0]);
-        }
+        Due::Refused(q) => end_kept(q, &list, [number, 0, 0]),
     }
 }

@@ -8,8 +8,8 @@ use Rattle.response.specs.Events.{count}
 use Rattle.response.specs.Times.{interference}
 use Rattle.response.specs.Parts.{mostInterference}
 use Rattle.response.proofs.Figures.{member, Gathered, sum-none, sum-more, gathered-all}
-use Rattle.response.proofs.times.demand_of.Statement.{statement}
-use Rattle.response.proofs.times.demand_of.Tie as tie
+use Rattle.response.proofs.demand.demand_of.Statement.{statement}
+use Rattle.response.proofs.demand.demand_of.Tie as tie
 
 abbrev Inv-loop : tie.InvT-loop
 Inv-loop events i span n total₀ j₀ total j = (j ≤ n) × (n ≡ count events) × Gathered sum (interference events i span) j (mostInterference * j) total

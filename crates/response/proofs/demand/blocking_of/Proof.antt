@@ -8,8 +8,8 @@ use Rattle.response.specs.Events.{count}
 use Rattle.response.specs.Times.{blockedBy}
 use Rattle.response.specs.Parts.{longestFrame}
 use Rattle.response.proofs.Figures.{member, Gathered, largest-none, largest-more, gathered-all}
-use Rattle.response.proofs.times.blocking_of.Statement.{statement}
-use Rattle.response.proofs.times.blocking_of.Tie as tie
+use Rattle.response.proofs.demand.blocking_of.Statement.{statement}
+use Rattle.response.proofs.demand.blocking_of.Tie as tie
 
 abbrev Inv-loop : tie.InvT-loop
 Inv-loop events i n most₀ j₀ most j = (j ≤ n) × (n ≡ count events) × Gathered largest (blockedBy events i) j longestFrame most

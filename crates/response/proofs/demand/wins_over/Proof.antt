@@ -2,8 +2,8 @@
 use mathlib.Core.Path.{ap₂}
 use lib.Dec.{ltb}
 use borrow.Author.Needs.{needs}
-use Rattle.response.proofs.times.wins_over.Statement.{statement}
-use Rattle.response.proofs.times.wins_over.Tie as tie
+use Rattle.response.proofs.demand.wins_over.Statement.{statement}
+use Rattle.response.proofs.demand.wins_over.Tie as tie
 
 returns : tie.Need-returns
 returns c = ap₂ ltb (c .before .identifier-of .ensures) (c .identifier-of2 .ensures)

@@ -2,8 +2,8 @@
 use mathlib.Core.Path.{_∙_, sym}
 use borrow.Author.Needs.{needs}
 use Rattle.response.proofs.Figures.{figure-taken, figure-left}
-use Rattle.response.proofs.times.blocked_by.Statement.{statement}
-use Rattle.response.proofs.times.blocked_by.Tie as tie
+use Rattle.response.proofs.demand.blocked_by.Statement.{statement}
+use Rattle.response.proofs.demand.blocked_by.Tie as tie
 
 returns : tie.Need-returns
 returns c = figure-taken (sym (c .before .before .wins-over .ensures) ∙ c .before .if1 .taken) (c .frame-of .ensures)

@@ -1,0 +1,17 @@
+-- The room is no more than the buffer has.
+use mathlib.Core.Path.{sym}
+use native.Mathlib.Omega.{arith}
+use lib.Seq.{length-take-le}
+use borrow.Author.Needs.{needs}
+use Rattle.trial.proofs.show.write_times.Statement.{statement}
+use Rattle.trial.proofs.show.write_times.Tie as tie
+
+pub write-times-spec : {M : Type 1} → statement M
+write-times-spec =
+    tie.close
+    (tie.spec
+    (λ c. search needs)
+    (λ c. sym (length-take-le _ _ (omega arith)))
+    (λ c κs. search needs)
+    (λ c. search needs)
+    (λ c. search needs))
