@@ -72,7 +72,7 @@ says 0 'cycle   1     1    10    20     .' show $e/t1.tsm $e/t1.plan
 says 0 'in-window          40' losses $e/t1.tsm $e/t1.plan
 says 0 '   200    1      2  receives  20' lists $e/t1.tsm $e/t1.plan 0
 says 0 'node 15, triggers: 1' lists $e/t1.tsm $e/t1.plan
-says 0 'deadlines missed: 0' times $e/events.words
+says 1 'deadlines missed: 1' times $e/events.words
 says 0 'ttplan check FILE PROPOSAL' help
 says 0 'ttplan hold FILE PROPOSAL LOG SPAN' help
 
@@ -179,10 +179,51 @@ events_refused '1 8 337 337 337' '18, event 0 (identifier 1): the jitter must be
 events_refused '1 8 337 0 338' '18, event 0 (identifier 1): the deadline must be 1 to the period (337), found 338'
 events_refused '1 8 337 0 0' '18, event 0 (identifier 1): the deadline must be 1 to the period (337), found 0'
 events_refused '1 8 337 0 337 1 8 337 0 337' '18, event 1 (identifier 1): it has the identifier of event 0'
+rest='with it and the events of higher priority the bus must come to rest within 16777216 bit times, found a load of at most'
+events_refused '1 8 134 0 134' "19, event 0 (identifier 1): $rest 100.75 %"
+events_refused '1 8 135 0 135 2 0 1000 0 1000' "19, event 0 (identifier 1): $rest 100.00 %"
+events_refused '7 8 4000 0 4000 3 0 56 0 56 5 1 600 0 600' "19, event 0 (identifier 7): $rest 112.43 %"
+events_refused '7 8 4000 0 4000 3 0 56 0 56 5 1 3640 0 3640' "19, event 0 (identifier 7): $rest 103.38 %"
+events_refused '1 6 117 0 117 2 3 4973 1688 4973' "19, event 1 (identifier 2): $rest 100.00 %"
+events_refused "$(for i in $(seq 0 63); do echo "$((2047 - i)) 8 1 0 1"; done)" "19, event 0 (identifier 2047): $rest 864000.00 %"
 edited 26 265
 says 0 '1 1 # message 1, identifier 20' plan "$scratch/edited.words"
-sed 's/440/404/' $e/events.words >"$scratch/events"
-says 0 'deadlines missed: 1' times "$scratch/events"
+
+printf '%s\n' '-- response times'
+
+# times_are STATUS WORDS LINES: these events have this table, below its two heading lines.
+times_are() {
+    echo "$2" >"$scratch/events"
+    run times "$scratch/events"
+    [ "$status" -eq "$1" ] && [ ! -s "$scratch/err" ] && [ "$(tail -n +3 "$scratch/out")" = "$3" ]
+    verdict "ttplan times: $2"
+}
+
+run times $e/events.words
+[ "$status" -eq 1 ] && sed -n 's/^    //p' README.md | grep -A 5 -F 'The longest response' | cmp -s - "$scratch/out"
+verdict "ttplan times $e/events.words is the table in README.md"
+three='1 8 337 0 337  2 8 475 0 475  3 8 475 0'
+above='   1     8      337        0      337       270        0       270
+   2     8      475        0      475       405        0       810'
+times_are 0 "$three 475" "$above
+   3     8      475        0      475       470        1       945
+deadlines missed: 0"
+times_are 0 "$three 470" "$above
+   3     8      475        0      470       470        1       945
+deadlines missed: 0"
+times_are 1 "$three 469" "$above
+   3     8      475        0      469       470        1       945  missed
+deadlines missed: 1"
+times_are 0 '1 8 135 0 135' '   1     8      135        0      135       135        0       135
+deadlines missed: 0'
+times_are 1 '1 6 117 0 117 2 3 4973 1687 4973' '   1     6      117        0      117       200        0      5030  missed
+   2     3     4973     1687     4973      1887        0  16777215
+deadlines missed: 1'
+times_are 0 '' 'deadlines missed: 0'
+printf '10 6 119 0 119 11 1 1935 1170 1935 12 1 4194304 4194303 4194304' >"$scratch/events"
+run times "$scratch/events"
+[ "$(awk '{ if (length($0) > most) most = length($0) } END { print most }' "$scratch/out")" -le 80 ]
+verdict 'the table of times fits 80 columns'
 
 printf '%s\n' '-- plans and files can be read back'
 for name in t1 document-003 press-line; do

@@ -144,17 +144,25 @@ fn plan(file: &[u8]) {
     }
 }
 
+// The word that the exit status is taken from: whether all deadlines are met.
+fn say_met(misses: u32) {
+    if misses == 0 {
+        paper::line(b"done");
+    } else {
+        paper::line(b"missed");
+    }
+}
+
 // Shows the response times of events.
 fn show_times(events: &[u32]) {
-    let mut times = [0u32; 64];
+    let mut times = [0u32; response::MOST_EVENTS];
     let got = response::responses(events, &mut times);
     match got {
         Responded::Refused(q) => reasons::of_events(q, events),
         Responded::Done(misses) => {
-            paper::line(b"done");
-            tables::events(events, &times);
-            paper::text(b"deadlines missed: ");
-            paper::number(misses);
+            say_met(misses);
+            tables::events(events);
+            paper::text_number(b"deadlines missed: ", misses);
             paper::end_line();
         }
     }

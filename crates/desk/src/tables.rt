@@ -1,6 +1,8 @@
 // The other tables: the problem, the losses, the trigger lists and the response times; and words as a text that can be read back.
 use basics::wide;
 use losses::answer::BusTime;
+use response::EVENT_WORDS;
+use response::Worst;
 use rules::words;
 use triggers::ENTRY_WORDS;
 use triggers::KIND_WEIGHT;
@@ -9,6 +11,8 @@ ghost use Prim.Native.Nat.{_+_, _*_, _<_, _≤_};
 ghost use lib.ListN.{length};
 ghost use Rattle.rules.specs.Problem.{WellFormed, nodes};
 ghost use Rattle.triggers.specs.Lists.{entryWords};
+ghost use Rattle.response.specs.Events.{eventWords, mostEvents};
+ghost use Rattle.response.specs.Parts.{Ready};
 ghost use Rattle.rules.specs.Parts.{Member};
 
 // ---- the problem
@@ -153,34 +157,35 @@ pub fn bus_time(t: BusTime) {
 
 // ---- response times
 
-// An event and its response time, of which 0 says that it misses its deadline.
-fn event(e: &[u32], time: u32)
-    requires { ⌜ 5 ≤ length (now e) ⌝ }
+// An event, its longest response, the instance that has it, how long its busy period is, and whether it misses its deadline.
+fn event(e: &[u32], worst: Worst)
+    requires { ⌜ eventWords ≤ length (now e) ⌝ }
 {
-    paper::right_hex(wide(e[0]), 4);
-    paper::right(e[1], 6);
-    paper::right(e[2], 9);
-    paper::right(e[3], 9);
-    paper::right(e[4], 9);
-    if time == 0 {
-        paper::right_text(b"missed", 10);
-    } else {
-        paper::right(time, 10);
+    let deadline = e[response::DEADLINE];
+    paper::right_hex(wide(e[response::IDENTIFIER]), 4);
+    paper::right(e[response::DATA], 6);
+    paper::right(e[response::PERIOD], 9);
+    paper::right(e[response::JITTER], 9);
+    paper::right(deadline, 9);
+    paper::right_count(worst.response, 10);
+    paper::right_count(worst.instance, 9);
+    paper::right_count(worst.span, 10);
+    if wide(deadline) < worst.response {
+        paper::right_text(b"missed", 8);
     }
     paper::end_line();
 }
 
-// The response time of event i.
-fn time_of(times: &[u32], i: usize) -> u32 {
-    if i < times.len() { times[i] } else { 0 }
-}
-
-// A line for each event, with its response time.
-pub fn events(e: &[u32], times: &[u32]) {
-    paper::line(b"  id bytes   period   jitter deadline  response");
+// A line for each event that a call has answered.
+pub fn events(e: &[u32])
+    requires { ⌜ Ready (now e) mostEvents ⌝ }
+{
+    paper::line(b"The longest response, which instance has it (from 0), and the busy period");
+    paper::line(b"  id bytes   period   jitter deadline  response instance      busy");
     let mut i: usize = 0;
-    while i < e.len() / 5 {
-        event(&e[5 * i..5 * i + 5], time_of(times, i));
+    while i < e.len() / EVENT_WORDS {
+        let from = EVENT_WORDS * i;
+        event(&e[from..from + EVENT_WORDS], response::worst_of(e, i));
         i += 1;
     }
 }

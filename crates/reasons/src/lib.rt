@@ -90,6 +90,7 @@ pub fn of_events(q: Refusal, events: &[u32]) {
     match q {
         Refusal::EventWords => events::word_count(events),
         Refusal::Event(j) => events::event(events, j),
+        Refusal::Endless(j) => events::endless(events, j),
         _ => explain(q),
     }
     paper::end_line();
