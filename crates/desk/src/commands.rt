@@ -1,14 +1,14 @@
 // The commands: what each is given and what it answers. The first word on standard output is done, accepted, clean, differs or refused.
 use super::example;
 use super::holding;
-use super::matrix;
-use super::tables;
 use checker::answer::Checked;
 use files::input;
 use losses::answer::Lost;
 use planner::answer::Planned;
 use response::Responded;
 use triggers::Listed;
+use views::matrix;
+use views::tables;
 ghost use Rattle.rules.specs.Problem.{WellFormed};
 
 // The node that stands for all of them.

@@ -2,5 +2,3 @@
 pub mod commands;
 mod example;
 mod holding;
-mod matrix;
-mod tables;
