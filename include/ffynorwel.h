@@ -56,11 +56,9 @@ void ffy_read(const uint8_t *file, size_t file_len, uint32_t *words, size_t word
 /* Writes a problem's words as a file. Figure 0: how many bytes. Refuses with 1, 4 to 8, 16. */
 void ffy_write(const uint32_t *words, size_t words_len, uint8_t *file, size_t file_len, uint32_t answer[8]);
 
-/* Checks a proposal, two words for each message: column and base row. Refuses with 1 to 13. */
-void ffy_check(const uint8_t *file, size_t file_len, const uint32_t *proposal, size_t proposal_len, uint32_t answer[8]);
-
-/* Says where the bus time of one matrix cycle goes. Figures 0 to 4: reference, used, in-window, empty, gaps. Refuses with 1 to 13. */
-void ffy_losses(const uint8_t *file, size_t file_len, const uint32_t *proposal, size_t proposal_len, uint32_t answer[8]);
+/* Judges a proposal, two words for each message: column and base row. Number 0 is accepted; figures 0 to 4 then say where the bus
+   time of one matrix cycle goes: reference, used, in-window, empty, gaps. Refuses with 1 to 13. */
+void ffy_judge(const uint8_t *file, size_t file_len, const uint32_t *proposal, size_t proposal_len, uint32_t answer[8]);
 
 /* Writes the trigger lists of the 16 nodes: their counts, then the list of each. Figure 0: how many words. Refuses with 1 to 13, 16. */
 void ffy_lists(const uint8_t *file, size_t file_len, const uint32_t *proposal, size_t proposal_len, uint32_t *words, size_t words_len,

@@ -62,19 +62,38 @@ edited() {
 e=examples
 meeting='refused 13, message 2 (identifier 48) meets message 1 (identifier 32) in column 1, row 1'
 printf '%s\n' '-- answers'
-answers 0 accepted check $e/t1.tsm $e/t1.plan
-answers 0 accepted check $e/t1.words $e/t1.plan
-answers 0 accepted check $e/document-003.words $e/document-003.plan
-answers 0 accepted check $e/press-line.words $e/press-line.plan
+t1='accepted
+losses over one matrix cycle of 800
+reference         130    16.25 %
+used              430    53.75 %
+in-window          40     5.00 %
+empty             200    25.00 %
+gaps                0     0.00 %'
+answers 0 "$t1" check $e/t1.tsm $e/t1.plan
+answers 0 "$t1" check $e/t1.words $e/t1.plan
+run check $e/t1.tsm $e/t1.plan
+sed -n 's/^    //p' README.md | grep -A 6 -x 'accepted' | cmp -s - "$scratch/out"
+verdict "ttplan check $e/t1.tsm $e/t1.plan is the table in README.md"
+answers 0 'accepted
+losses over one matrix cycle of 20000
+reference         624     3.12 %
+used             7560    37.80 %
+in-window         800     4.00 %
+empty           11016    55.08 %
+gaps                0     0.00 %' check $e/document-003.words $e/document-003.plan
+says 0 accepted check $e/press-line.words $e/press-line.plan
 answers 1 "$meeting" check $e/t1.words $e/t1-meeting.plan
 says 0 'cycle   7    F0    51    52    53   102   104   202   404     .'
 says 0 'cycle   1     1    10    20     .' show $e/t1.tsm $e/t1.plan
-says 0 'in-window          40' losses $e/t1.tsm $e/t1.plan
+says 0 'in-window          40     5.00 %' show $e/t1.tsm $e/t1.plan
 says 0 '   200    1      2  receives  20' lists $e/t1.tsm $e/t1.plan 0
 says 0 'node 15, triggers: 1' lists $e/t1.tsm $e/t1.plan
 says 1 'deadlines missed: 1' times $e/events.words
 says 0 'ttplan check FILE PROPOSAL' help
 says 0 'ttplan hold FILE PROPOSAL LOG SPAN' help
+run help
+! grep -q '^ttplan losses' "$scratch/out"
+verdict 'ttplan help does not name losses'
 
 printf '%s\n' '-- every refusal that a person can meet'
 
@@ -160,8 +179,8 @@ file_refused 12 '\3' '8, node 0: it needs 4 triggers, and the limit is 3'
 proposal_refused check '0 0 1 1 1' '9, 3 messages need a proposal of 6 words, found 5'
 echo 1 1000 65 1 32 1 1 65 135 2 0 0 0 1000 0 1000 >"$scratch/one.words"
 answers 1 'refused 9, 1 message needs a proposal of 2 words, found 5' check "$scratch/one.words" "$scratch/p"
-proposal_refused losses '0 0 1 1 3 0' '10, message 2 (identifier 48): the column must be 0 to 2, found 3'
-proposal_refused losses '0 0 1 1 1 2' '10, message 2 (identifier 48): the base row must be 0 to 1, found 2'
+proposal_refused check '0 0 1 1 3 0' '10, message 2 (identifier 48): the column must be 0 to 2, found 3'
+proposal_refused check '0 0 1 1 1 2' '10, message 2 (identifier 48): the base row must be 0 to 1, found 2'
 proposal_refused lists '1 0 0 0 0 0' '11, message 0 (identifier 16): its frame takes 135, and column 1 is 100 wide'
 proposal_refused show '0 0 1 0 1 1' '12, message 1 (identifier 32) in column 1, base row 0: it waits 600 and its frame takes 65, 665 in all, and its deadline is 300'
 proposal_refused check '0 0 1 1 0 1' '13, message 2 (identifier 48) meets message 0 (identifier 16) in column 0, row 1'
@@ -188,6 +207,23 @@ events_refused '1 6 117 0 117 2 3 4973 1688 4973' "19, event 1 (identifier 2): $
 events_refused "$(for i in $(seq 0 63); do echo "$((2047 - i)) 8 1 0 1"; done)" "19, event 0 (identifier 2047): $rest 864000.00 %"
 edited 26 265
 says 0 '1 1 # message 1, identifier 20' plan "$scratch/edited.words"
+
+printf '%s\n' '-- shares of the matrix cycle'
+
+# share FIGURE WHOLE TEXT: a reference window and a cycle of these lengths, one row and no message: the reference takes this share.
+share() {
+    echo "1 $2 $1 1 32 1 0 $1 $(($2 - $1))" >"$scratch/share.words"
+    : >"$scratch/share.plan"
+    says 0 "$(printf 'reference   %9d%11s' "$1" "$3")" check "$scratch/share.words" "$scratch/share.plan"
+}
+
+share 65 66 '98.48 %'
+share 199 200 '99.50 %'
+share 65534 65535 '100.00 %'
+share 65 65535 '0.10 %'
+share 101 800 '12.63 %'
+share 67 65535 '0.10 %'
+share 69 65535 '0.11 %'
 
 printf '%s\n' '-- response times'
 
@@ -339,6 +375,9 @@ answers 0 'clean: 211200 sends in 100 matrix cycles' hold "$scratch/full.words" 
 
 printf '%s\n' '-- bad use'
 is_bad 'no such command' frobnicate
+for arguments in '' "$e/t1.tsm $e/t1.plan"; do
+    is_bad 'ttplan check FILE PROPOSAL shows them' losses $arguments
+done
 is_bad 'use: ttplan check FILE PROPOSAL' check $e/t1.tsm
 is_bad 'use: ttplan show FILE [PROPOSAL]' show
 is_bad 'use: ttplan plan FILE' plan $e/t1.tsm $e/t1.plan

@@ -71,7 +71,7 @@ fn first() {
     show::plan(b"T1", problem, 0, plan);
     show::accepted(b"T1 and its plan", problem, plan, b"130 430 40 200 0");
     t1_lists(problem, plan);
-    show::check(b"T1 and 0 0 1 1 1 1", problem, b"0 0 1 1 1 1", [13, 2, 1]);
+    show::refused(b"T1 and 0 0 1 1 1 1", problem, b"0 0 1 1 1 1", [13, 2, 1]);
 }
 
 // Message 32 can be sent by 265 after its release and no earlier.
@@ -104,13 +104,13 @@ fn no_messages() {
         &mut p,
     );
     let problem = &p[..n];
-    show::check(
+    show::accepted(
         b"no messages and the empty proposal",
         problem,
         b"",
-        show::NONE,
+        b"130 0 0 670 0",
     );
-    show::check(
+    show::refused(
         b"no messages and a proposal of two words",
         problem,
         b"0 0",
@@ -164,18 +164,18 @@ fn first_fit() {
 fn offset_and_repeats() {
     let mut p = [0u32; MOST_WORDS];
     let n = t1(&mut p);
-    show::check(
+    show::refused(
         b"T1 with message 32 in row 1 of message 16's column",
         &p[..n],
         b"0 0 0 1 1 0",
         [13, 1, 0],
     );
     build::set(&mut p, OFFSET_48, 700);
-    show::check(
+    show::accepted(
         b"T1 with offset 700 for message 48",
         show::front(&p, n),
         b"0 0 1 1 1 0",
-        show::NONE,
+        b"130 430 40 200 0",
     );
 }
 
@@ -189,7 +189,7 @@ fn beyond_the_first_cycle() {
         &mut p,
     );
     let problem = &p[..n];
-    show::check(
+    show::refused(
         b"released at 350, due at 450, sent at 200",
         problem,
         b"0 0",

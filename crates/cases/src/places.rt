@@ -65,7 +65,7 @@ fn first() {
           16 0 4 2 400 0 400",
         &mut p,
     );
-    show::check(
+    show::refused(
         b"a message of every row where two others take turns",
         &p[..n],
         b"1 0 1 1 1 0",

@@ -1,9 +1,8 @@
 // The commands: what each is given and what it answers. The first word on standard output is done, accepted, clean, differs or refused.
 use super::example;
 use super::holding;
-use checker::answer::Checked;
 use files::input;
-use losses::answer::Lost;
+use judge::Judged;
 use planner::answer::Planned;
 use response::Responded;
 use triggers::Listed;
@@ -14,7 +13,7 @@ ghost use Rattle.rules.specs.Problem.{WellFormed};
 // The node that stands for all of them.
 const ALL_NODES: u32 = rules::words::NODES;
 
-// What the first argument asks for.
+// What the first argument asks for. Losses are shown by check; their name is known so that its user is told so.
 enum Command {
     Show,
     Check,
@@ -30,23 +29,33 @@ enum Command {
     Unknown,
 }
 
-// What of a problem is shown.
+// What of a problem is shown; of a verdict only that it is accepted.
 enum View {
     Problem,
     Words,
     Proposal,
+    Verdict,
     Matrix,
     Example,
 }
 
 // ---- answers
 
+// The word that the exit status is taken from.
+fn begin(view: View) {
+    match view {
+        View::Verdict => paper::line(b"accepted"),
+        _ => paper::line(b"done"),
+    }
+}
+
 // Shows a well-formed problem, or what a proposal makes of it.
 fn present(view: View, p: &[u32], w: &[u32])
     requires { ⌜ WellFormed (now p) ⌝ }
 {
-    paper::line(b"done");
+    begin(view);
     match view {
+        View::Verdict => {}
         View::Problem => {
             tables::header(p);
             tables::messages(p);
@@ -58,10 +67,12 @@ fn present(view: View, p: &[u32], w: &[u32])
             tables::header(p);
             tables::messages(p);
             matrix::show(p, w, true);
+            paper::end_line();
         }
         View::Example => {
             paper::line(b"Document 003's example, planned; identifiers in hexadecimal");
             matrix::show(p, w, true);
+            paper::end_line();
         }
     }
 }
@@ -75,35 +86,13 @@ fn show(view: View, file: &[u8], w: &[u32]) {
     }
 }
 
-// Shows a problem with a proposal's matrix and losses.
+// Shows a proposal that is accepted and where the bus time then goes, or says why it is refused.
 fn show_proposal(view: View, file: &[u8], w: &[u32]) {
-    let got = losses::losses(file, w);
+    let got = judge::judge(file, w);
     match got {
-        Lost::Refused(q) => reasons::of_file(q, file, w),
-        Lost::Figures(t) => {
+        Judged::Refused(q) => reasons::of_file(q, file, w),
+        Judged::Accepted(t) => {
             show(view, file, w);
-            paper::line(b"\nlosses over one matrix cycle");
-            tables::bus_time(t);
-        }
-    }
-}
-
-// Says whether a proposal is accepted.
-fn check(file: &[u8], w: &[u32]) {
-    let got = checker::check(file, w);
-    match got {
-        Checked::Accepted => paper::line(b"accepted"),
-        Checked::Refused(q) => reasons::of_file(q, file, w),
-    }
-}
-
-// Shows the losses of a proposal.
-fn show_losses(file: &[u8], w: &[u32]) {
-    let got = losses::losses(file, w);
-    match got {
-        Lost::Refused(q) => reasons::of_file(q, file, w),
-        Lost::Figures(t) => {
-            paper::line(b"done");
             tables::bus_time(t);
         }
     }
@@ -200,8 +189,7 @@ fn on_proposal(command: Command, number: u32) {
     let n = got.count;
     let k = told.count;
     match command {
-        Command::Check => check(&bytes[..n], &words[..k]),
-        Command::Losses => show_losses(&bytes[..n], &words[..k]),
+        Command::Check => show_proposal(View::Verdict, &bytes[..n], &words[..k]),
         Command::Lists => show_lists(&bytes[..n], &words[..k], basics::wide(number)),
         Command::Hold => holding::hold_file(&bytes[..n], &words[..k], number),
         Command::Due => holding::show_due(&bytes[..n], &words[..k], number),
@@ -345,12 +333,11 @@ fn takes(command: Command, arguments: usize) -> bool {
     match command {
         Command::Show => (arguments == 3) | (arguments == 4),
         Command::Check => arguments == 4,
-        Command::Losses => arguments == 4,
         Command::Lists => (arguments == 4) | (arguments == 5),
         Command::Hold => arguments == 6,
         Command::Due => arguments == 5,
         Command::Help => arguments == 2,
-        Command::Unknown => false,
+        Command::Losses | Command::Unknown => false,
         _ => arguments == 3,
     }
 }
@@ -361,7 +348,9 @@ fn say_usage(command: Command) {
         Command::Show => paper::say(b"ttplan: use: ttplan show FILE [PROPOSAL]\n"),
         Command::Check => paper::say(b"ttplan: use: ttplan check FILE PROPOSAL\n"),
         Command::Plan => paper::say(b"ttplan: use: ttplan plan FILE\n"),
-        Command::Losses => paper::say(b"ttplan: use: ttplan losses FILE PROPOSAL\n"),
+        Command::Losses => paper::say(
+            b"ttplan: losses is no command of its own any more: ttplan check FILE PROPOSAL shows them\n",
+        ),
         Command::Lists => paper::say(b"ttplan: use: ttplan lists FILE PROPOSAL [NODE]\n"),
         Command::Hold => paper::say(b"ttplan: use: ttplan hold FILE PROPOSAL LOG SPAN\n"),
         Command::Due => paper::say(b"ttplan: use: ttplan due FILE PROPOSAL SPAN\n"),
@@ -370,7 +359,7 @@ fn say_usage(command: Command) {
         Command::File => paper::say(b"ttplan: use: ttplan file WORDS\n"),
         Command::Help => paper::say(b"ttplan: use: ttplan help\n"),
         Command::Unknown => paper::say(
-            b"ttplan: no such command; they are show, check, plan, losses, lists, hold, due, times, words, file and help\n",
+            b"ttplan: no such command; they are show, check, plan, lists, hold, due, times, words, file and help\n",
         ),
     }
 }
@@ -382,9 +371,8 @@ fn help() {
     paper::line(
         b"ttplan show FILE [PROPOSAL]         the problem; with a proposal its matrix and losses",
     );
-    paper::line(b"ttplan check FILE PROPOSAL          accepted, or refused and why");
+    paper::line(b"ttplan check FILE PROPOSAL          accepted and its losses, or refused and why");
     paper::line(b"ttplan plan FILE                    the least acceptable proposal");
-    paper::line(b"ttplan losses FILE PROPOSAL         where the bus time of one matrix cycle goes");
     paper::line(b"ttplan lists FILE PROPOSAL [NODE]   the trigger lists of all nodes or one");
     paper::line(b"ttplan hold FILE PROPOSAL LOG SPAN  clean, or where a log of the bus differs");
     paper::line(

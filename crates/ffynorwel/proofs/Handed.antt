@@ -6,10 +6,8 @@ use Rattle.reader.specs.Promise.{Reading}
 use Rattle.reader.proofs.Results.{read-one}
 use Rattle.writer.specs.Promise.{Writing}
 use Rattle.writer.proofs.Results.{write-one}
-use Rattle.checker.specs.Promise.{Checking}
-use Rattle.checker.proofs.Promise.{checking-one}
-use Rattle.losses.specs.Promise.{Losing}
-use Rattle.losses.proofs.Promise.{losing-one}
+use Rattle.judge.specs.Promise.{Judging}
+use Rattle.judge.proofs.Promise.{judging-one}
 use Rattle.triggers.specs.Promise.{Listing}
 use Rattle.triggers.proofs.Results.{listing-one}
 use Rattle.log.specs.Promise.{Holding, DueWritten}
@@ -19,7 +17,7 @@ use Rattle.planner.specs.Promise.{Planning}
 use Rattle.planner.proofs.Unique.{planning-one}
 use Rattle.response.specs.Promise.{Responding}
 use Rattle.response.proofs.Results.{responding-one}
-use Rattle.ffynorwel.specs.Eight.{readWords, writtenWords, checkedWords, lostWords, listedWords, heldWords, dueWords, plannedWords, respondedWords}
+use Rattle.ffynorwel.specs.Eight.{readWords, writtenWords, judgedWords, listedWords, heldWords, dueWords, plannedWords, respondedWords}
 use Rattle.ffynorwel.specs.Handed.{Handed}
 
 -- the call answered r, which is s, and the words of s were stored
@@ -50,11 +48,8 @@ module _ (f d : List ℕ) {e g x y : List ℕ} where
   ffy-responses-one = handed-both (λ r s a b. responding-one a b)
 
 module _ {f w x y : List ℕ} where
-  pub ffy-check-one : Handed (Checking f w) checkedWords x → Handed (Checking f w) checkedWords y → x ≡ y
-  ffy-check-one = handed-one (λ r s a b. checking-one a b)
-
-  pub ffy-losses-one : Handed (Losing f w) lostWords x → Handed (Losing f w) lostWords y → x ≡ y
-  ffy-losses-one = handed-one (λ r s a b. losing-one a b)
+  pub ffy-judge-one : Handed (Judging f w) judgedWords x → Handed (Judging f w) judgedWords y → x ≡ y
+  ffy-judge-one = handed-one (λ r s a b. judging-one a b)
 
 module _ (f w d : List ℕ) {e g x y : List ℕ} where
   pub ffy-lists-one : Handed (Listing f w d e) listedWords x → Handed (Listing f w d g) listedWords y → (x ≡ y) × (e ≡ g)

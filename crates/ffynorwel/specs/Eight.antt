@@ -6,10 +6,8 @@ use Rattle.reader.specs.declared.answer.Read.{Read}
 use Rattle.reader.specs.Answer as ofReader
 use Rattle.writer.specs.declared.Written.{Written}
 use Rattle.writer.specs.Answer as ofWriter
-use Rattle.checker.specs.declared.answer.Checked.{Checked}
-use Rattle.checker.specs.Answer as ofChecker
-use Rattle.losses.specs.declared.answer.Lost.{Lost}
-use Rattle.losses.specs.Answer as ofLosses
+use Rattle.judge.specs.declared.answer.Judged.{Judged}
+use Rattle.judge.specs.Answer as ofJudge
 use Rattle.triggers.specs.declared.Listed.{Listed}
 use Rattle.triggers.specs.Answer as ofTriggers
 use Rattle.log.specs.declared.answer.Held.{Held}
@@ -36,11 +34,8 @@ readWords r = counted (ofReader.paper r) (ofReader.countOf r)
 abbrev pub writtenWords : Written → List ℕ
 writtenWords r = counted (ofWriter.paper r) (ofWriter.countOf r)
 
-abbrev pub checkedWords : Checked → List ℕ
-checkedWords r = counted (ofChecker.paper r) 0
-
-abbrev pub lostWords : Lost → List ℕ
-lostWords r = let t = ofLosses.figures r in eight (ofLosses.paper r) (t .reference) (t .used) (t .in_window) (t .empty) (t .gaps)
+abbrev pub judgedWords : Judged → List ℕ
+judgedWords r = let t = ofJudge.figures r in eight (ofJudge.paper r) (t .reference) (t .used) (t .in_window) (t .empty) (t .gaps)
 
 abbrev pub listedWords : Listed → List ℕ
 listedWords r = counted (ofTriggers.paper r) (ofTriggers.countOf r)

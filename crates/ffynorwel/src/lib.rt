@@ -1,8 +1,7 @@
 // The calls for programs in other languages: each hands over the answer of its Rattle call as eight words. A slice is a pointer and a length.
-use checker::Checked;
+use judge::Judged;
 use log::Due;
 use log::Held;
-use losses::Lost;
 use planner::Planned;
 use reader::Read;
 use response::Responded;
@@ -15,13 +14,12 @@ ghost use Prim.Native.Nat.{_<_};
 ghost use Rattle.rules.specs.Paper.{done, refused};
 ghost use Rattle.reader.specs.Promise.{Reading};
 ghost use Rattle.writer.specs.Promise.{Writing};
-ghost use Rattle.checker.specs.Promise.{Checking};
-ghost use Rattle.losses.specs.Promise.{Losing};
+ghost use Rattle.judge.specs.Promise.{Judging};
 ghost use Rattle.triggers.specs.Promise.{Listing};
 ghost use Rattle.log.specs.Promise.{Holding, DueWritten};
 ghost use Rattle.planner.specs.Promise.{Planning};
 ghost use Rattle.response.specs.Promise.{Responding};
-ghost use Rattle.ffynorwel.specs.Eight.{eight, counted, readWords, writtenWords, checkedWords, lostWords, listedWords, heldWords, dueWords, plannedWords, respondedWords};
+ghost use Rattle.ffynorwel.specs.Eight.{eight, counted, readWords, writtenWords, judgedWords, listedWords, heldWords, dueWords, plannedWords, respondedWords};
 ghost use Rattle.ffynorwel.specs.Handed.{Handed};
 
 // Stores number, place, second place and figures.
@@ -89,27 +87,15 @@ pub extern "C" fn ffy_write(words: &[u32], file: &mut [u8], answer: &mut [u32; 8
     }
 }
 
-// checker::check; it has no figure.
+// judge::judge; the figures are the five of the bus time.
 #[no_mangle]
-pub extern "C" fn ffy_check(file: &[u8], proposal: &[u32], answer: &mut [u32; 8])
-    ensures { λ _. ⌜ Handed (Checking (now (file .entry)) (now (proposal .entry))) checkedWords (now (answer .exit)) ⌝ }
+pub extern "C" fn ffy_judge(file: &[u8], proposal: &[u32], answer: &mut [u32; 8])
+    ensures { λ _. ⌜ Handed (Judging (now (file .entry)) (now (proposal .entry))) judgedWords (now (answer .exit)) ⌝ }
 {
-    let got = checker::check(file, proposal);
+    let got = judge::judge(file, proposal);
     match got {
-        Checked::Accepted => wrote(answer, 0),
-        Checked::Refused(q) => refuse(answer, q),
-    }
-}
-
-// losses::losses; the figures are the five of the bus time.
-#[no_mangle]
-pub extern "C" fn ffy_losses(file: &[u8], proposal: &[u32], answer: &mut [u32; 8])
-    ensures { λ _. ⌜ Handed (Losing (now (file .entry)) (now (proposal .entry))) lostWords (now (answer .exit)) ⌝ }
-{
-    let got = losses::losses(file, proposal);
-    match got {
-        Lost::Figures(t) => finish(answer, t.reference, t.used, t.in_window, t.empty, t.gaps),
-        Lost::Refused(q) => refuse(answer, q),
+        Judged::Accepted(t) => finish(answer, t.reference, t.used, t.in_window, t.empty, t.gaps),
+        Judged::Refused(q) => refuse(answer, q),
     }
 }
 

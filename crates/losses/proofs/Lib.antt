@@ -4,4 +4,4 @@ pub mod Cells
 pub mod Gaps
 pub mod Sum
 pub mod Tallies
-pub mod Promise
+pub mod Five

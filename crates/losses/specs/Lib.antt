@@ -1,4 +1,2 @@
 pub mod Losses
-pub mod Answer
-pub mod Promise
 pub mod Parts

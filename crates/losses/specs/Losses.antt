@@ -1,13 +1,17 @@
 -- Where the bus time of one matrix cycle goes: five figures, each by its own rule, over the sends and the cells of one matrix cycle.
 use Prim.Native.Nat.{ℕ, _+_, _*_, _-_}
+use mathlib.Core.Path.{_≡_}
 use mathlib.Core.Bool.{Bool, _&&_, _||_, not}
 use mathlib.Core.List.{List}
 use lib.Dec.{leb, ltb}
 use Rattle.basics.specs.Sums.{sum, only}
 use Rattle.basics.specs.Tests.{some}
+use Rattle.rules.specs.declared.Fault.{Fault}
+use Rattle.rules.specs.Paper.{figureFor}
 use Rattle.rules.specs.Problem.{rows, cycle, matrix, refLen, columns, messages, start, width, lasts}
 use Rattle.rules.specs.Sends.{sendAt}
 use Rattle.cells.specs.Cells.{startsAt, occupied}
+use Rattle.losses.specs.declared.BusTime.{BusTime}
 
 -- ---- reference: R · f
 abbrev pub reference : List ℕ → ℕ
@@ -41,3 +45,11 @@ uncovered p = sum (cycle p) (λ y. only (not (covered p y)) 1)
 
 abbrev pub gaps : List ℕ → ℕ
 gaps p = rows p * uncovered p
+
+-- ---- t has the five figures of the proposal w for p, and where x is a refusal 0 for each
+pub record FiguresAre (x : Fault) (p w : List ℕ) (t : BusTime) : Type 0 where
+  pub reference-is : t .reference ≡ figureFor x (reference p)
+  pub used-is : t .used ≡ figureFor x (used p w)
+  pub in-window-is : t .in_window ≡ figureFor x (inWindow p w)
+  pub empty-is : t .empty ≡ figureFor x (empty p w)
+  pub gaps-is : t .gaps ≡ figureFor x (gaps p)

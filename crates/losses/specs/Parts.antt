@@ -1,4 +1,4 @@
--- What the parts of the call ask and hand back.
+-- What the parts of `figures` ask and hand back.
 use Prim.Native.Nat.{ℕ, zero, suc, _+_, _*_, _-_, _<_, _≤_}
 use mathlib.Core.Path.{_≡_}
 use mathlib.Core.Bool.{not}
@@ -7,9 +7,7 @@ use lib.Dec.{eqb}
 use Rattle.basics.specs.Sums.{sum, only}
 use Rattle.rules.specs.Problem.{mostRows, mostColumns, rows, columns, messages, width, lasts}
 use Rattle.cells.specs.Table.{numberIn}
-use Rattle.losses.specs.declared.answer.BusTime.{BusTime}
 use Rattle.losses.specs.declared.Tally.{Tally}
-use Rattle.losses.specs.Losses.{reference, used, inWindow, empty, gaps}
 
 -- ---- how long a cell is held, by its number in the table: by no message, or by message j, whose number is j + 1
 abbrev pub heldBy : List ℕ → ℕ → ℕ
@@ -69,11 +67,3 @@ pub record Small (most : ℕ) (r : Tally) : Type 0 where
   pub used : r .used ≤ most
   pub in-window : r .in_window ≤ most
   pub empty : r .empty ≤ most
-
--- ---- the five figures of an accepted proposal
-pub record FiguresAre (p w : List ℕ) (t : BusTime) : Type 0 where
-  pub reference-is : t .reference ≡ reference p
-  pub used-is : t .used ≡ used p w
-  pub in-window-is : t .in_window ≡ inWindow p w
-  pub empty-is : t .empty ≡ empty p w
-  pub gaps-is : t .gaps ≡ gaps p

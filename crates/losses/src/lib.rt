@@ -1,18 +1,29 @@
 // Where the bus time of one matrix cycle goes.
-pub mod answer;
-
-pub use answer::BusTime;
-pub use answer::Lost;
-use basics::FILL;
-use reader::Read;
 use rules::words;
 ghost use mathlib.Core.Path.{_≡_};
+ghost use mathlib.Core.List.{[], _∷_};
 ghost use Prim.Native.Nat.{_*_, _<_, _≤_};
 ghost use Rattle.rules.specs.Problem.{WellFormed, rows, columns as columnCount, messages as messageCount};
-ghost use Rattle.losses.specs.Losses.{uncovered};
-ghost use Rattle.losses.specs.Promise.{Losing};
+ghost use Rattle.rules.specs.declared.Fault.the-variants.{Clear};
+ghost use Rattle.losses.specs.Losses.{uncovered, FiguresAre};
 ghost use Rattle.proposal.specs.Accepted.{Accepted};
-ghost use Rattle.losses.specs.Parts.{heldBy, Fits, Added, RowAdded, Tallied, longest, rowMost, cellsMost, Small, FiguresAre};
+ghost use Rattle.losses.specs.Parts.{heldBy, Fits, Added, RowAdded, Tallied, longest, rowMost, cellsMost, Small};
+
+// The five figures, in network time units.
+pub struct BusTime {
+    pub reference: u32,
+    pub used: u32,
+    pub in_window: u32,
+    pub empty: u32,
+    pub gaps: u32,
+}
+
+// The five figures as words, in the paper's order.
+pub fn words_of(t: BusTime) -> [u32; 5]
+    ensures { λ r. ⌜ r ≡ (t .reference ∷ t .used ∷ t .in_window ∷ t .empty ∷ t .gaps ∷ []) ⌝ }
+{
+    [t.reference, t.used, t.in_window, t.empty, t.gaps]
+}
 
 // What the cells seen so far come to.
 pub struct Tally {
@@ -108,9 +119,9 @@ fn gap_of(p: &[u32]) -> usize
 }
 
 // The five figures of an accepted proposal: the table of cells is filled from it, and a cell whose number stays 0 is empty.
-fn figures(p: &[u32], w: &[u32]) -> BusTime
+pub fn figures(p: &[u32], w: &[u32]) -> BusTime
     requires { ⌜ Accepted (now p) (now w) ⌝ }
-    ensures { λ r. ⌜ FiguresAre (now (p .entry)) (now (w .entry)) r ⌝ }
+    ensures { λ r. ⌜ FiguresAre Clear (now (p .entry)) (now (w .entry)) r ⌝ }
 {
     let mut table = [0u8; cells::CELLS];
     cells::fill(p, w, &mut table);
@@ -123,16 +134,4 @@ fn figures(p: &[u32], w: &[u32]) -> BusTime
         empty: tally.empty as u32,
         gaps: (rows * gap_of(p)) as u32,
     }
-}
-
-// The loss figures of a proposal for a problem file.
-pub fn losses(file: &[u8], proposal: &[u32]) -> Lost
-    ensures { λ r. ⌜ Losing (now (file .entry)) (now (proposal .entry)) r ⌝ }
-{
-    let mut words = [FILL; words::MOST_WORDS];
-    let got = proposal::accept(file, proposal, &mut words);
-    let Read::Problem(n) = got else {
-        return Lost::Refused(reader::answer::refusal_of(got));
-    };
-    Lost::Figures(figures(&words[..n], proposal))
 }

@@ -100,6 +100,25 @@ pub fn left_text(s: &[u8], columns: usize) {
     pad(s.len(), columns);
 }
 
+// All of something, in hundredths of a per cent.
+pub const ALL: usize = 10000;
+
+// Writes hundredths of a per cent as per cent with two decimals; the whole per cents end a column of so many characters.
+pub fn right_per_cent(hundredths: usize, columns: usize) {
+    right_count(hundredths / 100, columns);
+    text(b".");
+    if hundredths % 100 < 10 {
+        text(b"0");
+    }
+    count(hundredths % 100);
+    text(b" %");
+}
+
+// Writes hundredths of a per cent as per cent with two decimals.
+pub fn per_cent(hundredths: usize) {
+    right_per_cent(hundredths, 0);
+}
+
 // Writes one hexadecimal digit, the lowest of n.
 fn hex_digit(n: usize) {
     let digits = b"0123456789ABCDEF";

@@ -1,4 +1,4 @@
-// What is wrong with a proposal: checker, losses and lists all test it so.
+// What is wrong with a proposal: judge, lists and logs all test it so.
 use reader::Read;
 use rules::Fault;
 use rules::Refusal;

@@ -21,7 +21,7 @@ ghost use Rattle.reasons.specs.Shares.{mostShares, mostLoad};
 // All of the bus time, in shares so small that those of 64 events, each rounded up, are hardly more than the load, and how many of them are a hundredth of a per cent.
 const WHOLE: usize = 10000000000;
 
-const HUNDREDTH: usize = WHOLE / 10000;
+const HUNDREDTH: usize = WHOLE / paper::ALL;
 
 // The count of the words of events.
 pub fn word_count(events: &[u32]) {
@@ -109,25 +109,11 @@ fn shares_with(events: &[u32], j: u32) -> usize
     total
 }
 
-// Shares of the bus time in per cent with two decimals, rounded up.
-fn per_cent(shares: usize)
-    requires { ⌜ shares ≤ mostLoad ⌝ }
-{
-    let hundredths = (shares + (HUNDREDTH - 1)) / HUNDREDTH;
-    paper::count(hundredths / 100);
-    paper::text(b".");
-    if hundredths % 100 < 10 {
-        paper::text(b"0");
-    }
-    paper::count(hundredths % 100);
-    paper::text(b" %");
-}
-
-// An event that has no busy period. Its shares are rounded up, so that the load is at most what is shown.
+// An event that has no busy period. Its shares are rounded up, and so is their sum, so that the load is at most what is shown.
 pub fn endless(events: &[u32], j: u32) {
     begin(events, j);
     paper::text(
         b"with it and the events of higher priority the bus must come to rest within 16777216 bit times, found a load of at most ",
     );
-    per_cent(shares_with(events, j));
+    paper::per_cent((shares_with(events, j) + (HUNDREDTH - 1)) / HUNDREDTH);
 }

@@ -1,6 +1,6 @@
 -- The starred cases, proved together: one computed test over the table, and one law that turns it into the statement at each case.
 use Prim.Native.Nat.{ℕ, _+_}
-use mathlib.Core.Path.{_≡_, refl, ap, ap₂}
+use mathlib.Core.Path.{_≡_, refl, sym, ap, ap₂}
 use mathlib.Core.Bool.{Bool, true, false, _&&_}
 use mathlib.Core.List.{List, [], _∷_, _++_, List·Memᴰ, List·Memᴰ·cases-cons, List·Memᴰ·not-nil}
 use mathlib.Core.Logic.{⊎-elim}
@@ -15,6 +15,7 @@ use Rattle.basics.proofs.Tests.{left, right}
 use Rattle.rules.specs.Problem.{earliest, triggers, frame, proposalWords, WellFormed}
 use Rattle.rules.specs.Sends.{sendAt}
 use Rattle.rules.specs.Refusal.{isClear, firstFault}
+use Rattle.rules.specs.declared.Fault.the-variants.{Clear}
 use Rattle.rules.specs.declared.Paper.{Paper}
 use Rattle.rules.specs.Paper.{between, paperOf}
 use Rattle.rules.specs.Rules.{headerFault, columnWrong, repeated, identityWrong, onGrid, timingWrong, overloaded, wordsFault, problemFault}
@@ -24,12 +25,12 @@ use Rattle.rules.proofs.Faults.{clear-is}
 use Rattle.rules.proofs.Formed.{problem-kept}
 use Rattle.planner.proofs.Seek.{run, run-least, run-none}
 use Rattle.cells.specs.Cells.{startsAt, occupied}
-use Rattle.losses.specs.Losses.{reference, used, inWindow, empty, inColumn, covered, uncovered, gaps}
-use Rattle.losses.proofs.Sum.{losses-sum}
+use Rattle.losses.specs.Losses.{reference, used, inWindow, empty, inColumn, covered, uncovered, gaps, FiguresAre}
+use Rattle.losses.proofs.Five.{figures-sum}
 use Rattle.response.specs.Promise.{zeros}
 use Rattle.response.specs.Events.{count, repeated as repeatedEvent, eventWrong, eventsFault}
 use Rattle.response.proofs.Computed.{climb, span, worse, seek as seekWorst, worst, time, times, spansFault, computed}
-use Rattle.tables.specs.Cases.{Case, lasts, plans, plans-none, loses, accepts, refuses, responds, Says}
+use Rattle.tables.specs.Cases.{Case, lasts, plans, plans-none, loses, accepts, refuses, responds, figures, Says}
 use Rattle.tables.specs.Starred.{t1, two, none as noMessage, events, starred}
 
 -- ---- tests
@@ -117,15 +118,8 @@ holds-says (loses p w a b c d e) t =
     let ec = eqb→eq (inWindow p w) c (left (eqb (inWindow p w) c) _ t₄) in
     let ed = eqb→eq (empty p w) d (left (eqb (empty p w) d) (eqb (gaps p) e) t₅) in
     let ee = eqb→eq (gaps p) e (right (eqb (empty p w) d) (eqb (gaps p) e) t₅) in
-    record {
-      formed = wf;
-      reference-is = ea;
-      used-is = eb;
-      in-window-is = ec;
-      empty-is = ed;
-      gaps-is = ee;
-      sum-is = omega (arith, losses-sum {p = p} {w = w} (record { formed = wf; faultless = fine }));
-    }
+    let are : FiguresAre Clear p w (figures a b c d e) = record { reference-is = sym ea; used-is = sym eb; in-window-is = sym ec; empty-is = sym ed; gaps-is = sym ee } in
+    (wf, are, figures-sum (record { formed = wf; faultless = fine }) are)
 holds-says (accepts p w) t =
     let wf = formed p (left (wellFormed p) (isClear (proposalFault p w)) t) in
     let a = exact p w wf .0 (clear-is (proposalFault p w) (right (wellFormed p) (isClear (proposalFault p w)) t)) in

@@ -7,7 +7,9 @@ use Rattle.rules.specs.Problem.{matrix, frame, InRange, WellFormed}
 use Rattle.rules.specs.Sends.{Acceptable}
 use Rattle.rules.specs.Paper.{between, paperOf}
 use Rattle.rules.specs.Tests.{proposalFault}
-use Rattle.losses.specs.Losses.{reference, used, inWindow, empty, gaps}
+use Rattle.rules.specs.declared.Fault.the-variants.{Clear}
+use Rattle.losses.specs.declared.BusTime.{BusTime}
+use Rattle.losses.specs.Losses.{FiguresAre}
 use Rattle.planner.specs.Least.{Plan, Least}
 use Rattle.response.specs.declared.Responded.the-variants.{Done}
 use Rattle.response.specs.Events.{count}
@@ -27,21 +29,15 @@ pub data Case : Type 0 where
   -- for the events e the words t are written, and m are missed
   responds : (e t : List ℕ) (m : ℕ) → Case
 
--- the five figures and their sum
-pub record Lost (p w : List ℕ) (a b c d e : ℕ) : Type 0 where
-  pub formed : WellFormed p
-  pub reference-is : reference p ≡ a
-  pub used-is : used p w ≡ b
-  pub in-window-is : inWindow p w ≡ c
-  pub empty-is : empty p w ≡ d
-  pub gaps-is : gaps p ≡ e
-  pub sum-is : a + b + c + d + e ≡ matrix p
+-- five figures as a call answers them
+abbrev pub figures : ℕ → ℕ → ℕ → ℕ → ℕ → BusTime
+figures a b c d e = record { reference = a; used = b; in_window = c; empty = d; gaps = e }
 
 abbrev pub Says : Case → Type 0
 Says (lasts s c) = frame s ≡ c
 Says (plans p w) = WellFormed p × Least p w
 Says (plans-none p) = WellFormed p × ((w : List ℕ) → ¬ Plan p w)
-Says (loses p w a b c d e) = Lost p w a b c d e
+Says (loses p w a b c d e) = WellFormed p × FiguresAre Clear p w (figures a b c d e) × (a + b + c + d + e ≡ matrix p)
 Says (accepts p w) = WellFormed p × InRange p w × Acceptable p w
 Says (refuses p w n j i) = WellFormed p × (paperOf (proposalFault p w) ≡ between n j i)
 Says (responds e t m) = Responding e (replicate (count e) 0) t (Done m)

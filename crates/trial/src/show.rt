@@ -1,10 +1,8 @@
 // A case is shown on a line: what is tried, what came out, and whether that is what the document says.
 use crate::build;
-use checker::Checked;
+use judge::Judged;
 use log::Due;
 use log::Held;
-use losses::BusTime;
-use losses::Lost;
 use planner::Planned;
 use reader::Read;
 use response::EVENT_WORDS;
@@ -135,21 +133,37 @@ fn end_words(words: &[u32], number: u32, wanted: &[u8]) {
     end((number == 0) & is_text(words, wanted));
 }
 
-// A proposal checked: the number and the places that the document wants, 0 where it is accepted.
-pub fn check(title: &[u8], problem: &[u32], proposal: &[u8], wanted: [u32; 3]) {
+// A proposal judged: the number and the places that the document wants, and the losses where these are 0.
+pub fn judge(
+    title: &[u8],
+    problem: &[u32],
+    proposal: &[u8],
+    wanted: [u32; 3],
+    wanted_losses: &[u8],
+) {
     let mut file = [0u8; problem::MOST_BYTES];
     let n = file_of(problem, &mut file);
     let mut w = [0u32; rules::words::MOST_PROPOSAL];
     let m = build::words(proposal, &mut w);
-    start(title, b", checked: ");
-    let got = checker::check(&file[..n], &w[..m]);
+    start(title, b", judged: ");
+    let got = judge::judge(&file[..n], &w[..m]);
     match got {
-        Checked::Accepted => {
-            paper::text(b"accepted");
-            end(wanted[0] == 0);
+        Judged::Accepted(t) => {
+            paper::text(b"accepted, losses ");
+            end_words(&losses::words_of(t), wanted[0], wanted_losses);
         }
-        Checked::Refused(q) => end_refused(q, wanted),
+        Judged::Refused(q) => end_refused(q, wanted),
     }
+}
+
+// An acceptable proposal: it is accepted, and its losses are those that the document wants.
+pub fn accepted(title: &[u8], problem: &[u32], proposal: &[u8], losses: &[u8]) {
+    judge(title, problem, proposal, NONE, losses);
+}
+
+// A proposal that the document wants refused, with this number and these places.
+pub fn refused(title: &[u8], problem: &[u32], proposal: &[u8], wanted: [u32; 3]) {
+    judge(title, problem, proposal, wanted, b"");
 }
 
 // A problem planned: the proposal that the document wants, or the number of the refusal.
@@ -177,31 +191,6 @@ pub fn plan_text(
     let mut p = [0u32; MOST_WORDS];
     let n = build::problem(header, columns, messages, &mut p);
     plan(title, &p[..n], number, wanted);
-}
-
-// The figures as words.
-fn figures(t: BusTime) -> [u32; 5] {
-    [t.reference, t.used, t.in_window, t.empty, t.gaps]
-}
-
-// The losses of an acceptable proposal.
-fn losses(title: &[u8], problem: &[u32], proposal: &[u8], wanted: &[u8]) {
-    let mut file = [0u8; problem::MOST_BYTES];
-    let n = file_of(problem, &mut file);
-    let mut w = [0u32; rules::words::MOST_PROPOSAL];
-    let m = build::words(proposal, &mut w);
-    start(title, b", losses: ");
-    let got = losses::losses(&file[..n], &w[..m]);
-    match got {
-        Lost::Figures(t) => end_words(&figures(t), 0, wanted),
-        Lost::Refused(q) => end_refused(q, NONE),
-    }
-}
-
-// An acceptable proposal: it is accepted, and its losses are those that the document wants.
-pub fn accepted(title: &[u8], problem: &[u32], proposal: &[u8], wanted: &[u8]) {
-    check(title, problem, proposal, NONE);
-    losses(title, problem, proposal, wanted);
 }
 
 // Shows trigger lists by how many words they are and their 16 counts, where the document wants so many words that start with those of a text.

@@ -1,11 +1,9 @@
 // The calls that a record can have, each with its name, and one call on one case.
 use crate::record::WORD;
-use checker::answer::Checked;
+use judge::Judged;
 use log::Difference;
 use log::Due;
 use log::Held;
-use losses::answer::BusTime;
-use losses::answer::Lost;
 use planner::answer::Planned;
 use reader::Read;
 use response::EVENT_WORDS;
@@ -15,15 +13,13 @@ use rules::Refusal;
 use triggers::Listed;
 use writer::Written;
 
-// A call's number in a record. A further call takes the next number, its name in `name` and its line in `run`; `is_call` has the last.
+// A call's number in a record; 4 is none any more. A further call takes the next number, its name in `name` and its line in `run`; `is_call` has the last.
 // A call that takes a log has none in `run`: it is made with larger buffers.
 const READ: u8 = 1;
 
 const WRITE: u8 = 2;
 
-const CHECK: u8 = 3;
-
-const LOSSES: u8 = 4;
+const JUDGE: u8 = 3;
 
 const LISTS: u8 = 5;
 
@@ -49,7 +45,7 @@ const FIGURE: usize = 3;
 
 // Whether a record's call is one of these.
 pub fn is_call(call: u8) -> bool {
-    (READ <= call) & (call <= HOLD)
+    ((READ <= call) & (call <= JUDGE)) | ((LISTS <= call) & (call <= HOLD))
 }
 
 // Whether a call takes a log and writes nothing.
@@ -138,26 +134,12 @@ fn write(words: &[u32], file: &mut [u8], output: &mut [u32]) -> [u64; NUMBERS] {
     }
 }
 
-// Call 3: a proposal checked.
-fn check(file: &[u8], proposal: &[u32]) -> [u64; NUMBERS] {
-    let got = checker::check(file, proposal);
+// Call 3: a proposal judged.
+fn judge(file: &[u8], proposal: &[u32]) -> [u64; NUMBERS] {
+    let got = judge::judge(file, proposal);
     match got {
-        Checked::Accepted => done(0),
-        Checked::Refused(q) => refused(q),
-    }
-}
-
-// The answer of the losses.
-fn figures(t: BusTime) -> [u64; NUMBERS] {
-    finished([t.reference, t.used, t.in_window, t.empty, t.gaps], 0)
-}
-
-// Call 4: where the bus time goes.
-fn lose(file: &[u8], proposal: &[u32]) -> [u64; NUMBERS] {
-    let got = losses::losses(file, proposal);
-    match got {
-        Lost::Figures(t) => figures(t),
-        Lost::Refused(q) => refused(q),
+        Judged::Accepted(t) => finished(losses::words_of(t), 0),
+        Judged::Refused(q) => refused(q),
     }
 }
 
@@ -234,8 +216,7 @@ pub fn run(
     match call {
         READ => read(file, output),
         WRITE => write(words, lent, output),
-        CHECK => check(file, proposal),
-        LOSSES => lose(file, proposal),
+        JUDGE => judge(file, proposal),
         LISTS => list(file, proposal, output),
         PLAN => plan(file, output),
         _ => respond(words, output),
@@ -247,8 +228,7 @@ pub fn name(call: u8) {
     match call {
         READ => paper::text(b"read"),
         WRITE => paper::text(b"write"),
-        CHECK => paper::text(b"check"),
-        LOSSES => paper::text(b"losses"),
+        JUDGE => paper::text(b"judge"),
         LISTS => paper::text(b"lists"),
         PLAN => paper::text(b"plan"),
         RESPONSES => paper::text(b"responses"),

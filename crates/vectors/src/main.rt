@@ -76,7 +76,7 @@ fn output_of(call: u8, output: &[u8], words: &mut [u32]) -> usize
 }
 
 // Runs a call and holds what comes out to what is expected.
-fn judge(
+fn try_call(
     call: u8,
     file: &[u8],
     words: &[u32],
@@ -112,7 +112,7 @@ fn run_case(
     let in_b = record::gather(proposal, &mut b);
     let mut lent = [calls::BYTE_PATTERN; MOST_ROOM];
     let mut buffer = [calls::WORD_PATTERN; MOST_ROOM];
-    judge(
+    try_call(
         call,
         input,
         &a[..in_a],
@@ -126,14 +126,14 @@ fn run_case(
 }
 
 // Holds the list that is due, and what is behind it in a longer buffer, to a log that is clean.
-fn judge_due(file: &[u8], proposal: &[u32], log: &[u32], span: u32) -> Difference {
+fn try_due(file: &[u8], proposal: &[u32], log: &[u32], span: u32) -> Difference {
     let mut due = [calls::WORD_PATTERN; LOG_WORDS];
     let got = calls::due(file, proposal, span, &mut due);
     compare::compare(got, calls::done(log.len()), &due, log, calls::WORD_PATTERN)
 }
 
 // Holds a log against the plan and the answer to what is expected. A log that is clean is the list that is due.
-fn judge_log(
+fn try_log(
     file: &[u8],
     proposal: &[u32],
     log: &[u32],
@@ -148,7 +148,7 @@ fn judge_log(
     if !calls::is_clean(got) {
         return Difference::None;
     }
-    judge_due(file, proposal, log, span)
+    try_due(file, proposal, log, span)
 }
 
 // Runs a case with a log in buffers of its own.
@@ -164,7 +164,7 @@ fn log_case(
     let in_b = record::gather(proposal, &mut b);
     let mut c = [basics::FILL; LOG_WORDS];
     let in_c = record::gather(log, &mut c);
-    judge_log(
+    try_log(
         file,
         &b[..in_b],
         &c[..in_c],

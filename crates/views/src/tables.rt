@@ -1,6 +1,6 @@
 // The other tables: the problem, the losses, the trigger lists and the response times; and words as a text that can be read back.
 use basics::wide;
-use losses::answer::BusTime;
+use losses::BusTime;
 use response::EVENT_WORDS;
 use response::Worst;
 use rules::words;
@@ -139,20 +139,35 @@ pub fn proposal_words(p: &[u32], w: &[u32])
 
 // ---- losses
 
-// One figure, by its name.
-fn loss(name: &[u8], figure: u32) {
+// How many hundredths of a per cent a figure is of the whole, to the nearest, a half up: twice as many and one, halved.
+fn share(figure: u32, whole: usize) -> usize
+    requires { ⌜ 1 ≤ whole ⌝ }
+{
+    (2 * wide(figure) * paper::ALL / whole + 1) / 2
+}
+
+// One figure, by its name, and its share of the whole.
+fn loss(name: &[u8], figure: u32, whole: usize)
+    requires { ⌜ 1 ≤ whole ⌝ }
+{
     paper::left_text(name, 12);
     paper::right(figure, 9);
+    paper::right_per_cent(share(figure, whole), 6);
     paper::end_line();
 }
 
-// Where the time of one matrix cycle goes.
-pub fn bus_time(t: BusTime) {
-    loss(b"reference", t.reference);
-    loss(b"used", t.used);
-    loss(b"in-window", t.in_window);
-    loss(b"empty", t.empty);
-    loss(b"gaps", t.gaps);
+// Where the time of one matrix cycle goes: the five figures, and the share of each in their sum, which is the cycle's length.
+pub fn bus_time(t: BusTime)
+    requires { ⌜ 1 ≤ t .reference ⌝ }
+{
+    let whole = wide(t.reference) + wide(t.used) + wide(t.in_window) + wide(t.empty) + wide(t.gaps);
+    paper::text_count(b"losses over one matrix cycle of ", whole);
+    paper::end_line();
+    loss(b"reference", t.reference, whole);
+    loss(b"used", t.used, whole);
+    loss(b"in-window", t.in_window, whole);
+    loss(b"empty", t.empty, whole);
+    loss(b"gaps", t.gaps, whole);
 }
 
 // ---- response times

@@ -3,11 +3,11 @@ use Prim.Native.Nat.{ℕ}
 use mathlib.Core.Path.{sym}
 use lib.ListN.{length-replicate}
 use borrow.Author.Needs.{needs}
-use Rattle.vectors.proofs.judge_due.Statement.{statement}
-use Rattle.vectors.proofs.judge_due.Tie as tie
+use Rattle.vectors.proofs.try_due.Statement.{statement}
+use Rattle.vectors.proofs.try_due.Tie as tie
 
-pub judge-due-spec : {M : Type 1} → statement M
-judge-due-spec =
+pub try-due-spec : {M : Type 1} → statement M
+try-due-spec =
     tie.close
     (tie.spec
     (λ c. sym (length-replicate {A = ℕ} 422402 2779096485))

@@ -1,4 +1,4 @@
--- What the checker promises: demand 2 as a call.
+-- What judging promises: demand 2 as a call, and where the bus time goes.
 use Prim.Native.Nat.{ℕ}
 use mathlib.Core.Path.{_≡_}
 use mathlib.Core.List.{List}
@@ -10,8 +10,9 @@ use Rattle.rules.specs.Sends.{Acceptable}
 use Rattle.problem.specs.File.{wordsOf}
 use Rattle.problem.specs.Wrong.{fileFault}
 use Rattle.proposal.specs.Accepted.{checkFault}
-use Rattle.checker.specs.declared.answer.Checked.{Checked}
-use Rattle.checker.specs.Answer.{paper}
+use Rattle.losses.specs.Losses.{FiguresAre}
+use Rattle.judge.specs.declared.answer.Judged.{Judged}
+use Rattle.judge.specs.Answer.{paper, figures}
 
 -- the file f reads as the problem p
 pub record Reads (f p : List ℕ) : Type 0 where
@@ -19,7 +20,9 @@ pub record Reads (f p : List ℕ) : Type 0 where
   pub words : wordsOf f ≡ p
 
 -- the file f and the proposal w are answered with r
-pub record Checking (f w : List ℕ) (r : Checked) : Type 0 where
+pub record Judging (f w : List ℕ) (r : Judged) : Type 0 where
   pub paper-is : paper r ≡ paperOf (checkFault f w)
   -- and in terms of sends: accepted exactly where the proposal is in range and acceptable
   pub exactly : (p : List ℕ) → Reads f p → (paper r .number ≡ 0) ↔ (InRange p w × Acceptable p w)
+  -- the five figures, each by its own rule, and 0 with a refusal
+  pub figures-are : FiguresAre (checkFault f w) (wordsOf f) w (figures r)

@@ -1,22 +1,22 @@
 -- File and proposal are tested once; what is refused is handed on, and else the figures are those of the words that were read.
 use mathlib.Core.Path.{sym}
 use Rattle.proposal.proofs.Accepting.{refused-is, admitted-length}
-use Rattle.losses.proofs.Promise.{losing-bad, losing-figures}
+use Rattle.judge.proofs.Promise.{judging-refused, judging-accepted}
 use borrow.Author.Needs.{needs}
-use Rattle.losses.proofs.losses.Statement.{statement}
-use Rattle.losses.proofs.losses.Tie as tie
+use Rattle.judge.proofs.judge.Statement.{statement}
+use Rattle.judge.proofs.judge.Tie as tie
 
 returns : tie.Need-returns
 returns c =
     let told = c .before in
-    losing-bad (refused-is (told .before .before .before .accept .ensures) (told .enum-told .given .1) (c .refusal-of .ensures))
+    judging-refused (refused-is (told .before .before .before .accept .ensures) (told .enum-told .given .1) (c .refusal-of .ensures))
 
 -- where the answer is a problem, the buffer begins with its words
 array-share-prefix-words : tie.Need-array-share-prefix-words
 array-share-prefix-words c = let got = c .before in got .before .before .before .accept .ensures .opens _ (got .got .given .1) .within
 
-slice-aggregate-figures : tie.Need-slice-aggregate-figures
-slice-aggregate-figures c = let got = c .before .before in sym (admitted-length (got .before .before .before .accept .ensures .opens _ (got .got .given .1)))
+slice-aggregate-problem : tie.Need-slice-aggregate-problem
+slice-aggregate-problem c = let got = c .before .before in sym (admitted-length (got .before .before .before .accept .ensures .opens _ (got .got .given .1)))
 
 figures-requires : tie.Need-figures-requires
 figures-requires c κs = let got = c .before .before in got .before .before .before .accept .ensures .opens _ (got .got .given .1) .accepted
@@ -24,10 +24,10 @@ figures-requires c κs = let got = c .before .before in got .before .before .bef
 returns-2 : tie.Need-returns-2
 returns-2 c =
     let got = c .before .before .before in
-    losing-figures (got .before .before .before .accept .ensures .opens _ (got .got .given .1)) (c .figures .ensures)
+    judging-accepted (got .before .before .before .accept .ensures .opens _ (got .got .given .1)) (c .figures .ensures)
 
-pub losses-spec : {M : Type 1} → statement M
-losses-spec =
+pub judge-spec : {M : Type 1} → statement M
+judge-spec =
     tie.close
     (tie.spec
     (λ c. search needs)
@@ -37,6 +37,6 @@ losses-spec =
     (λ c κs. search needs)
     returns
     array-share-prefix-words
-    slice-aggregate-figures
+    slice-aggregate-problem
     figures-requires
     returns-2)
