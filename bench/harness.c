@@ -1,8 +1,8 @@
 /* harness.c: runs a file of prepared cases (TSV2) through the C interface, compares every number, place,
    figure, output and untouched byte with what the case says, and times each call.
    Usage: harness CASES.bin [REPEAT]: each call is repeated, and its best time counts.
-   It links baseline.c or the proved library; -DSTAGE="'x'": x is the last request of document 02 that has landed
-   ('0': document 01 alone; by default 'g'). */
+   It links baseline.c or the proved library; -DSTAGE="'x'": x is the last request of document 02 that has landed,
+   'd' at least (by default 'g'). */
 #include <stdint.h>
 #include <stdio.h>
 #include <stdlib.h>
@@ -18,12 +18,7 @@ typedef uint32_t u32;
 
 void ffy_read(const u8 *, size_t, u32 *, size_t, u32 *);
 void ffy_write(const u32 *, size_t, u8 *, size_t, u32 *);
-#if STAGE < 'd'
-void ffy_check(const u8 *, size_t, const u32 *, size_t, u32 *);
-void ffy_losses(const u8 *, size_t, const u32 *, size_t, u32 *);
-#else
 void ffy_judge(const u8 *, size_t, const u32 *, size_t, u32 *);
-#endif
 void ffy_lists(const u8 *, size_t, const u32 *, size_t, u32 *, size_t, u32 *);
 void ffy_plan(const u8 *, size_t, u32 *, size_t, u32 *);
 void ffy_responses(const u32 *, size_t, u32 *, size_t, u32 *);
@@ -32,9 +27,8 @@ void ffy_up(const u8 *, size_t, u8 *, size_t, u32 *);
 void ffy_back(const u8 *, size_t, u8 *, size_t, u32 *);
 void ffy_replan(const u8 *, size_t, const u32 *, size_t, u32 *, size_t, u32 *);
 
-enum { READ = 1, WRITE, CHECK, LOSSES, LISTS, PLAN, RESPONSES, HOLD, UP, BACK, REPLAN, CALLS };
-static const char *names[CALLS] = {"", "read", "write", STAGE < 'd' ? "check" : "judge", "losses", "lists", "plan",
-                                   "responses", "hold", "up", "back", "replan"};
+enum { READ = 1, WRITE, JUDGE, LISTS = 5, PLAN, RESPONSES, HOLD, UP, BACK, REPLAN, CALLS };
+static const char *names[CALLS] = {"", "read", "write", "judge", "", "lists", "plan", "responses", "hold", "up", "back", "replan"};
 
 typedef struct {
     u32 call, la, lb, lc, ld, span, room, room2, number, place, second, figures[5], lo, lo2;
@@ -113,18 +107,9 @@ static int run(const Case *k, u8 *buf, u32 *ans) {
     case WRITE:
         ffy_write(k->aw, k->la / 4, buf, k->room, ans);
         return 1;
-#if STAGE < 'd'
-    case CHECK:
-        ffy_check(k->a, k->la, k->b, k->lb, ans);
-        return 1;
-    case LOSSES:
-        ffy_losses(k->a, k->la, k->b, k->lb, ans);
-        return 1;
-#else
-    case CHECK:
+    case JUDGE:
         ffy_judge(k->a, k->la, k->b, k->lb, ans);
         return 1;
-#endif
     case LISTS:
         ffy_lists(k->a, k->la, k->b, k->lb, words, k->room, ans);
         return 1;
@@ -134,11 +119,9 @@ static int run(const Case *k, u8 *buf, u32 *ans) {
     case RESPONSES:
         ffy_responses(k->aw, k->la / 4, words, k->room, ans);
         return 1;
-#if STAGE >= 'a'
     case HOLD:
         ffy_hold(k->a, k->la, k->b, k->lb, k->c, k->lc, k->span, ans);
         return 1;
-#endif
 #if STAGE >= 'e'
     case UP:
         ffy_up(k->a, k->la, buf, k->room, ans);
