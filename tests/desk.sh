@@ -81,7 +81,13 @@ used             7560    37.80 %
 in-window         800     4.00 %
 empty           11016    55.08 %
 gaps                0     0.00 %' check $e/document-003.words $e/document-003.plan
-says 0 accepted check $e/press-line.words $e/press-line.plan
+answers 0 'accepted
+losses over one matrix cycle of 4000
+reference         300     7.50 %
+used             1880    47.00 %
+in-window         405    10.13 %
+empty             455    11.38 %
+gaps              960    24.00 %' check $e/press-line.words $e/press-line.plan
 answers 1 "$meeting" check $e/t1.words $e/t1-meeting.plan
 says 0 'cycle   7    F0    51    52    53   102   104   202   404     .'
 says 0 'cycle   1     1    10    20     .' show $e/t1.tsm $e/t1.plan
