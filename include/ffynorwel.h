@@ -11,11 +11,17 @@
      answer[3..7]   figures: as said at each call; all that it does not speak of are 0, and all are 0 with a refusal
    A refused call writes to no other buffer, and a longer buffer keeps what is beyond the output.
 
+   A problem file is of version 1 or 2, and every call but ffy_up and ffy_back takes both. Version 2 has a fifth byte in each
+   column's record, its kind (0, an exclusive window; any other is refused with 5 as yet), and four bytes for a message's identifier
+   (above 2047 it is refused with 6 as yet). As words a problem has three for each column in version 2 (start, width, kind) and two in
+   version 1; so ffy_write tells the version by the count. The same problem in both versions gets the same answer from every call.
+
    number   when                                                                        place
      0      done                                                                        0
      1      the file or the problem's words have the wrong length                       0
      2      the file does not begin with the mark TSM                                   0
-     3      the file's version is not 1                                                 0
+     3      the file's version is neither 1 nor 2; with ffy_up it is not 1, with        0
+            ffy_back not 2
      4      a number of the header is out of its range                                  the byte at which a file has the first such:
                                                                                         R 5, B 6, f 8, reference identifier 10,
                                                                                         L 12, K 13, M 14, the 0 behind them 15
@@ -35,6 +41,7 @@
     18      a field of an event is wrong                                                the first such event
     19      with an event and those of higher priority the bus does not come to         the first such event
             rest within 16777216 bit times
+    20      version 1 has no room for a column's kind or a message's identifier         the first such column, else message
     24      the log's words are odd in number, or the span is not 1 to 100 cycles       0 */
 #ifndef FFYNORWEL_H
 #define FFYNORWEL_H
@@ -48,13 +55,20 @@ extern "C" {
 
 /* Room for every output: a problem's words, its file's bytes, a proposal of the planner, the trigger lists, response times, the
    list that is due. */
-enum { FFY_WORDS = 519, FFY_BYTES = 1296, FFY_PLAN = 32, FFY_LISTS = 2064, FFY_TIMES = 64, FFY_DUE = 422400 };
+enum { FFY_WORDS = 551, FFY_BYTES = 1456, FFY_PLAN = 32, FFY_LISTS = 2064, FFY_TIMES = 64, FFY_DUE = 422400 };
 
 /* Reads a problem file into words. Figure 0: how many words. Refuses with 1 to 8, 16. */
 void ffy_read(const uint8_t *file, size_t file_len, uint32_t *words, size_t words_len, uint32_t answer[8]);
 
 /* Writes a problem's words as a file. Figure 0: how many bytes. Refuses with 1, 4 to 8, 16. */
 void ffy_write(const uint32_t *words, size_t words_len, uint8_t *file, size_t file_len, uint32_t answer[8]);
+
+/* Moves a file of version 1 up to version 2. Figure 0: how many bytes. Refuses with 1 to 8, then 3 if the file is not of version 1, 16. */
+void ffy_up(const uint8_t *file, size_t file_len, uint8_t *out, size_t out_len, uint32_t answer[8]);
+
+/* Moves a file of version 2 back to version 1; up and back gives the old bytes. Figure 0: how many bytes. Refuses with 1 to 8, then 3 if
+   the file is not of version 2, 20, 16. */
+void ffy_back(const uint8_t *file, size_t file_len, uint8_t *out, size_t out_len, uint32_t answer[8]);
 
 /* Judges a proposal, two words for each message: column and base row. Number 0 is accepted; figures 0 to 4 then say where the bus
    time of one matrix cycle goes: reference, used, in-window, empty, gaps. Refuses with 1 to 13. */

@@ -97,6 +97,7 @@ says 0 'node 15, triggers: 1' lists $e/t1.tsm $e/t1.plan
 says 1 'deadlines missed: 1' times $e/events.words
 says 0 'ttplan check FILE PROPOSAL' help
 says 0 'ttplan hold FILE PROPOSAL LOG SPAN' help
+says 0 'ttplan up FILE OUT' help
 run help
 ! grep -q '^ttplan losses' "$scratch/out"
 verdict 'ttplan help does not name losses'
@@ -131,18 +132,20 @@ events_refused() {
 head -c 15 $e/t1.tsm >"$scratch/length.tsm"
 answers 1 'refused 1, a file has at least 16 bytes, found 15' plan "$scratch/length.tsm"
 (cat $e/t1.tsm && printf 'x') >"$scratch/length.tsm"
-answers 1 'refused 1, 3 columns and 3 messages make a file of 82 bytes, found 83' plan "$scratch/length.tsm"
+answers 1 'refused 1, 3 columns and 3 messages make a file of version 1 of 82 bytes, found 83' plan "$scratch/length.tsm"
 head -c 81 $e/t1.tsm >"$scratch/length.tsm"
-answers 1 'refused 1, 3 columns and 3 messages make a file of 82 bytes, found 81' check "$scratch/length.tsm" $e/t1.plan
+answers 1 'refused 1, 3 columns and 3 messages make a file of version 1 of 82 bytes, found 81' check "$scratch/length.tsm" $e/t1.plan
 echo 2 400 65 1 32 3 >"$scratch/length.words"
 answers 1 'refused 1, a problem has at least 7 words, found 6' plan "$scratch/length.words"
 edited 34 0
 head -n 33 "$scratch/edited.words" >"$scratch/length.words"
-answers 1 'refused 1, 3 columns and 3 messages make 34 words, found 33' plan "$scratch/length.words"
+answers 1 'refused 1, 3 columns and 3 messages make 34 words in version 1 and 37 in version 2, found 33' plan "$scratch/length.words"
 echo 1 1000 65 1 32 1 1 65 135 >"$scratch/length.words"
-answers 1 'refused 1, 1 column and 1 message make 16 words, found 9' file "$scratch/length.words"
+answers 1 'refused 1, 1 column and 1 message make 16 words in version 1 and 17 in version 2, found 9' file "$scratch/length.words"
 file_refused 2 N '2, the file does not begin with the mark TSM'
-file_refused 3 '\0\2' '3, the version of the file must be 1, found 2'
+file_refused 3 '\0\3' '3, the version of the file must be 1 or 2, found 3'
+file_refused 3 '\2\1' '3, the version of the file must be 1 or 2, found 513'
+file_refused 3 '\0\2' '1, 3 columns and 3 messages make a file of version 2 of 91 bytes, found 82'
 words_refused 0 3 '4, byte 5: the number of rows must be 1, 2, 4, 8, 16, 32 or 64, found 3'
 words_refused 1 0 '4, byte 6: the basic cycle must be 1 to 65535, found 0'
 words_refused 1 65536 '4, byte 6: the basic cycle must be 1 to 65535, found 65536'
@@ -292,6 +295,47 @@ run show $e/document-003.words $e/document-003.plan
 [ "$(awk '{ if (length($0) > most) most = length($0) } END { print most }' "$scratch/out")" -le 80 ]
 verdict 'tables fit 80 columns'
 
+printf '%s\n' '-- files moved up and back'
+for name in t1 document-003 press-line; do
+    run up $e/$name.words "$scratch/$name.up"
+    [ "$status" -eq 0 ] && grep -qx 'version 2, [0-9]* bytes' "$scratch/out" && [ ! -s "$scratch/err" ]
+    verdict "ttplan up $e/$name.words"
+    run back "$scratch/$name.up" "$scratch/$name.back"
+    [ "$status" -eq 0 ] && cmp -s "$scratch/$name.back" "$scratch/$name.tsm"
+    verdict "ttplan up and back of $e/$name.words gives the old bytes"
+    run plan "$scratch/$name.up"
+    [ "$status" -eq 0 ] && cmp -s "$scratch/out" $e/$name.plan
+    verdict "ttplan plan of version 2 of $e/$name.words is $e/$name.plan"
+done
+answers 0 "$t1" check "$scratch/t1.up" $e/t1.plan
+says 0 'file version                   1' show $e/t1.tsm
+says 0 'file version                   2' show "$scratch/t1.up"
+says 0 '# columns: start, width, kind' words "$scratch/t1.up"
+run words "$scratch/t1.up"
+cp "$scratch/out" "$scratch/two.words"
+run file "$scratch/two.words"
+[ "$status" -eq 0 ] && cmp -s "$scratch/out" "$scratch/t1.up"
+verdict 'ttplan file, words, file of version 2'
+says 0 'file version                   2' show "$scratch/two.words"
+answers 0 "$t1" check "$scratch/two.words" $e/t1.plan
+run file $e/t1-version-2.words
+[ "$status" -eq 0 ] && cmp -s "$scratch/out" "$scratch/t1.up"
+verdict "ttplan file $e/t1-version-2.words is version 2 of $e/t1.tsm"
+cp $e/t1.tsm "$scratch/same.tsm"
+answers 0 'version 2, 91 bytes' up "$scratch/same.tsm" "$scratch/same.tsm"
+cmp -s "$scratch/same.tsm" "$scratch/t1.up"
+verdict 'a file may be moved in its place'
+answers 1 'refused 3, the file is already of version 2' up "$scratch/same.tsm" "$scratch/none.tsm"
+answers 1 'refused 3, the file is already of version 1' back $e/t1.tsm "$scratch/none.tsm"
+[ ! -e "$scratch/none.tsm" ]
+verdict 'a refused move writes no file'
+sed 's/^200 100 0/200 100 1/' "$scratch/two.words" >"$scratch/kind.words"
+answers 1 'refused 5, column 1 (start 200, width 100): it is an arbitration window (kind 1), which is not taken yet' plan "$scratch/kind.words"
+sed 's/^200 100 0/200 100 7/' "$scratch/two.words" >"$scratch/kind.words"
+answers 1 'refused 5, column 1 (start 200, width 100): the kind must be 0, an exclusive window, found 7' file "$scratch/kind.words"
+sed 's/^16 0/2147483664 0/' "$scratch/two.words" >"$scratch/long-id.words"
+answers 1 'refused 6, message 0 (identifier 2147483664): the identifier must be 0 to 2047, found 2147483664' plan "$scratch/long-id.words"
+
 printf '%s\n' '-- a log against the plan'
 log=$scratch/log
 
@@ -388,6 +432,10 @@ is_bad 'use: ttplan check FILE PROPOSAL' check $e/t1.tsm
 is_bad 'use: ttplan show FILE [PROPOSAL]' show
 is_bad 'use: ttplan plan FILE' plan $e/t1.tsm $e/t1.plan
 is_bad 'use: ttplan times EVENTS' times
+is_bad 'use: ttplan up FILE OUT' up $e/t1.tsm
+is_bad 'use: ttplan back FILE OUT' back $e/t1.tsm
+is_bad 'Is a directory' up $e/t1.tsm "$scratch"
+is_bad 'No such file or directory' up $e/t1.tsm "$scratch/nowhere/out.tsm"
 is_bad 'use: ttplan hold FILE PROPOSAL LOG SPAN' hold $e/t1.tsm $e/t1.plan 1
 is_bad 'use: ttplan due FILE PROPOSAL SPAN' due $e/t1.tsm $e/t1.plan
 is_bad 'SPAN is a number of matrix cycles from 1 to 100' due $e/t1.tsm $e/t1.plan one

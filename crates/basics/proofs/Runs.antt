@@ -7,9 +7,9 @@ use borrow.Rule.Slice.PartMut.{putMid, midOf, same-len-mid}
 use native.Mathlib.Nat.{add-zero, add-suc, add-sub-cancel-left, mul-le-mul-left, mul-zero, mul-suc, eq-or-lt-of-le, le-of-suc-le-suc}
 use native.Mathlib.Numerals.{add-one}
 use native.Mathlib.Omega.{arith}
-use lib.ListN.{length, getD, set, take, drop, drop-of-length-le, length-append, length-drop, List·getD-append}
+use lib.ListN.{length, getD, set, take, drop, drop-of-length-le, length-append, length-drop, take-append-drop, List·getD-append}
 use lib.Seq.{drop-append-seam, sets, sets-eq, take-at, drop-at, drop-drop, length-take-le, drop-cons, set-at, take-suc, take-all, take-add, getD-take, getD-drop}
-use Rattle.basics.specs.Runs.{run, piece, Turned}
+use Rattle.basics.specs.Runs.{run, piece, tab, front, Turned}
 
 -- ---- runs
 module _ (g : ℕ → List ℕ) where
@@ -141,7 +141,18 @@ module _ {F : List ℕ → List ℕ} {a b : ℕ} {l d : List ℕ} where
   pub turned-all : {j n : ℕ} {x : List ℕ} → Turned F a b l d j x → j ≡ n → Turned F a b l d n x
   turned-all t e = rw (← e) t
 
--- ---- there and back: a head, K pieces of a and M of b, each turned into other pieces by F and G and back by F′ and G′
+-- ---- there and back: pieces of a, turned into pieces of a′ by F and back by F′
+module _
+    (s : List ℕ) (n a a′ K : ℕ) (F F′ : List ℕ → List ℕ)
+    (lF : (r : List ℕ) → length (F r) ≡ a′)
+    (bF : (i : ℕ) → i < K → F′ (F (piece a i (drop n s))) ≡ piece a i (drop n s))
+  where
+    run-back : (t : List ℕ) → run K (λ i. F′ (piece a′ i (run K (λ i. F (piece a i (drop n s))) ++ t))) ≡ take (a * K) (drop n s)
+    run-back t =
+        let f : ℕ → List ℕ = λ i. F (piece a i (drop n s)) in
+        run-same _ _ K (λ i l. ap F′ (piece-run f a′ (λ i. lF _) K i t l) ∙ bF i l) ∙ run-pieces a K (drop n s)
+
+-- a head, K pieces of a and M of b
 module _
     (s H : List ℕ) (n a b n′ a′ b′ K M : ℕ) (F G F′ G′ : List ℕ → List ℕ)
     (lH : length H ≡ n′) (lF : (r : List ℕ) → length (F r) ≡ a′) (lG : (r : List ℕ) → length (G r) ≡ b′)
@@ -157,13 +168,29 @@ module _
         let g : ℕ → List ℕ = λ j. G (piece b j (drop (n + a * K) s)) in
         let lC : length (run K f) ≡ a′ * K = length-run f a′ (λ i. lF _) K in
         let d1 : drop n′ X ≡ run K f ++ run M g = rw (isX, append-assoc, drop-at H (run K f ++ run M g) n′ lH) in
-        let d2 : drop (n′ + a′ * K) X ≡ run M g = rw isX (drop-at (H ++ run K f) (run M g) (n′ + a′ * K) (length-append H (run K f) ∙ rw (lH, lC))) in
-        let e1 : run K (λ i. F′ (piece a′ i (run K f ++ run M g))) ≡ take (a * K) (drop n s) =
-        run-same _ _ K (λ i l. ap F′ (piece-run f a′ (λ i. lF _) K i (run M g) l) ∙ bF i l) ∙ run-pieces a K (drop n s) in
-        let e2 : run M (λ j. G′ (piece b′ j (run M g))) ≡ take (b * M) (drop (n + a * K) s) =
-        run-same _ _ M (λ j l. ap G′ (ap (piece b′ j) (sym (append-nil (run M g))) ∙ piece-run g b′ (λ i. lG _) M j [] l) ∙ bG j l)
-        ∙ run-pieces b M (drop (n + a * K) s) in
+        let d2 : drop (n′ + a′ * K) X ≡ run M g ++ [] =
+        rw (isX, append-nil) (drop-at (H ++ run K f) (run M g) (n′ + a′ * K) (length-append H (run K f) ∙ rw (lH, lC))) in
+        let e1 = run-back s n a a′ K F F′ lF bF (run M g) in
+        let e2 = run-back s (n + a * K) b b′ M G G′ lG bG [] in
         rw (d1, d2, e1, e2, ← take-add n (a * K) s, ← take-add (n + a * K) (b * M) s) (take-all (n + a * K + b * M) s (omega arith))
+
+-- a head and K pieces of a, before an end that stays
+module _
+    (s H : List ℕ) (n a b K : ℕ) (F G : List ℕ → List ℕ)
+    (lH : length H ≡ n) (lF : (r : List ℕ) → length (F r) ≡ b)
+    (isH : H ≡ take n s)
+    (bF : (i : ℕ) → i < K → G (F (piece a i (drop n s))) ≡ piece a i (drop n s))
+    (X : List ℕ)
+    (isX : X ≡ H ++ run K (λ i. F (piece a i (drop n s))) ++ drop (n + a * K) s)
+  where
+    pub turned-back : H ++ run K (λ i. G (piece b i (drop n X))) ++ drop (n + b * K) X ≡ s
+    turned-back =
+        let f : ℕ → List ℕ = λ i. F (piece a i (drop n s)) in
+        let t : List ℕ = drop (n + a * K) s in
+        let lC : length (run K f) ≡ b * K = length-run f b (λ i. lF _) K in
+        let d1 : drop n X ≡ run K f ++ t = rw (isX, append-assoc, drop-at H (run K f ++ t) n lH) in
+        let d2 : drop (n + b * K) X ≡ t = rw isX (drop-at (H ++ run K f) t (n + b * K) (length-append H (run K f) ∙ rw (lH, lC))) in
+        rw (d1, d2, run-back s n a b K F G lF bF t, isH, ← take-add n (a * K) s) (take-append-drop (n + a * K) s)
 
 -- ---- a buffer that is filled from the front
 -- word by word
@@ -185,6 +212,17 @@ sets-next d p vs l m n e h b q =
 pub sets-all : (vs w : List ℕ) → length w ≡ length vs → sets w 0 vs ≡ vs
 sets-all vs w h = sets-eq vs w 0 (omega arith) ∙ ap (λ (l : List ℕ). vs ++ l) (drop-of-length-le w {i = 0 + length vs} (omega arith)) ∙ append-nil vs
 
+-- all but the first, and then the first
+pub sets-behind : (vs w : List ℕ) → length w ≡ suc (length vs) → sets w 1 vs ≡ getD w 0 0 ∷ vs
+sets-behind vs [] h = absurd (omega arith)
+sets-behind vs (x ∷ l) h =
+    sets-eq vs (x ∷ l) 1 (omega arith)
+    ∙ ap (λ (t : List ℕ). x ∷ (vs ++ t)) (drop-of-length-le (x ∷ l) {i = 1 + length vs} (omega arith))
+    ∙ ap (λ (t : List ℕ). x ∷ t) (append-nil vs)
+
+pub set-first : {l rest : List ℕ} {x y t : ℕ} → l ≡ y ∷ rest → x ≡ t → set l 0 x ≡ t ∷ rest
+set-first e h = rw (e, h)
+
 -- and to its end
 pub filled : (d p l : List ℕ) (n : ℕ) → l ≡ p ++ drop n d → length d ≡ n → l ≡ p
 filled d p l n e h = e ∙ rw (drop-of-length-le d {i = n} (omega arith), append-nil)
@@ -193,25 +231,32 @@ filled d p l n e h = e ∙ rw (drop-of-length-le d {i = n} (omega arith), append
 pub tail-part : (n : ℕ) (l : List ℕ) → take (length l - n) (drop n l) ≡ drop n l
 tail-part n l = take-all (length l - n) (drop n l) (rw length-drop (omega arith))
 
+pub put-rest : (p e d xs ys : List ℕ) (n : ℕ) → xs ≡ p ++ drop n d → length p ≡ n → ys ≡ e → putMid n (length xs - n) xs ys ≡ p ++ e
+put-rest p e d xs ys n q l r =
+    let h : take n xs ≡ p = rw (q, take-at p (drop n d) n l) in
+    let z : drop (length xs - n) (drop n xs) ≡ [] = drop-of-length-le (drop n xs) {i = length xs - n} (rw length-drop (omega arith)) in
+    rw (r, z, h, append-nil)
+
 pub put-tail : (p e d xs ys : List ℕ) (n m : ℕ) → xs ≡ p ++ drop n d → length p ≡ n → ys ≡ e ++ drop m (take (length xs - n) (drop n xs))
     → putMid n (length xs - n) xs ys ≡ (p ++ e) ++ drop (n + m) d
 put-tail p e d xs ys n m q l r =
     let t : drop n xs ≡ drop n d = rw (q, drop-at p (drop n d) n l) in
-    let h : take n xs ≡ p = rw (q, take-at p (drop n d) n l) in
-    let z : drop (length xs - n) (drop n xs) ≡ [] = drop-of-length-le (drop n xs) {i = length xs - n} (rw length-drop (omega arith)) in
-    rw (r, tail-part n xs, z, h, t, drop-drop m n d, append-nil, append-assoc)
+    put-rest p (e ++ drop (n + m) d) d xs ys n q l (r ∙ rw (tail-part n xs, t, drop-drop m n d)) ∙ sym (append-assoc p e (drop (n + m) d))
 
 -- ---- a list by its elements
-abbrev pub tab : (ℕ → ℕ) → ℕ → List ℕ
-tab g zero = []
-tab g (suc n) = g zero ∷ tab (λ i. g (suc i)) n
+pub length-front : (n : ℕ) (l : List ℕ) → length (front n l) ≡ n
+length-front n l = length-tab (λ i. getD l i 0) n
+  where
+    length-tab : (g : ℕ → ℕ) (n : ℕ) → length (tab g n) ≡ n
+    length-tab g zero = refl
+    length-tab g (suc n) = ap suc (length-tab (λ i. g (suc i)) n)
 
-pub listed-take : (n : ℕ) (l : List ℕ) → n ≤ length l → tab (λ i. getD l i 0) n ≡ take n l
+pub listed-take : (n : ℕ) (l : List ℕ) → n ≤ length l → front n l ≡ take n l
 listed-take zero l h = refl
 listed-take (suc n) [] h = absurd (omega arith)
 listed-take (suc n) (x ∷ l) h = ap (λ (t : List ℕ). x ∷ t) (listed-take n l (omega arith))
 
-pub listed : (n : ℕ) (l : List ℕ) → length l ≡ n → tab (λ i. getD l i 0) n ≡ l
+pub listed : (n : ℕ) (l : List ℕ) → length l ≡ n → front n l ≡ l
 listed n l e = listed-take n l (omega arith) ∙ take-all n l (omega arith)
 
 -- every element is below b
@@ -224,6 +269,9 @@ take-each b (suc k) [] z h i = z
 take-each b (suc k) (x ∷ l) z h zero = h zero
 take-each b (suc k) (x ∷ l) z h (suc i) = take-each b k l z (λ j. h (suc j)) i
 
+pub small-drop : (b n : ℕ) (l : List ℕ) → Small b l → Small b (drop n l)
+small-drop b n l h = record { each = λ i. rw getD-drop (h .each _) }
+
 pub small-piece : (b k i n : ℕ) (l : List ℕ) → 0 < b → Small b l → Small b (piece k i (drop n l))
 small-piece b k i n l z h =
-    record { each = take-each b k (drop (k * i) (drop n l)) z (λ j. rw (getD-drop, getD-drop) (h .each _)) }
+    record { each = take-each b k (drop (k * i) (drop n l)) z (small-drop b (k * i) (drop n l) (small-drop b n l h) .each) }

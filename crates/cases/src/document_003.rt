@@ -1,6 +1,7 @@
 // Document 003: 16 messages of 8 bytes in 8 rows of 2500, and the matrices of its figures 2 to 4, whose windows 1 to 16 are the columns.
 use rules::words::MOST_WORDS;
 use trial::build;
+use trial::moving;
 use trial::show;
 ghost use Rattle.io.specs.Counts.{Counts};
 
@@ -94,6 +95,7 @@ pub fn run() {
     let n = example(&mut p);
     let problem = &p[..n];
     show::round_trip(b"the example", problem);
+    moving::there_and_again(b"the example", problem, true);
     planned(problem);
     figures(problem);
 }

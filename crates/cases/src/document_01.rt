@@ -14,9 +14,16 @@ const OFFSET_48: usize = 32;
 pub fn t1(words: &mut [u32]) -> usize
     ensures { λ r. ⌜ Counts r (now (words .exit)) ⌝ }
 {
+    t1_with(b"65 135  200 100  300 100", words)
+}
+
+// T1 with columns as they are said.
+pub fn t1_with(columns: &[u8], words: &mut [u32]) -> usize
+    ensures { λ r. ⌜ Counts r (now (words .exit)) ⌝ }
+{
     build::problem(
         b"2 400 65 1 32 3 3",
-        b"65 135  200 100  300 100",
+        columns,
         b"16 0 8 2 400   0 400
           32 1 1 1 800 400 300
           48 1 4 1 800   0 800",

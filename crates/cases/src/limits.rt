@@ -1,6 +1,7 @@
 // The largest matrix, full, and buses that are wanted whole, or more than that.
 use rules::words::MOST_WORDS;
 use trial::build;
+use trial::moving;
 use trial::show;
 ghost use Prim.Native.Nat.{_<_};
 
@@ -13,8 +14,8 @@ const MESSAGES: usize = 64;
 // The words of a problem's header.
 const HEADER_WORDS: usize = 7;
 
-// The words of a column.
-const COLUMN_WORDS: usize = 2;
+// The words of a column, as version 2 has them.
+const COLUMN_WORDS: usize = 3;
 
 // The words of a message.
 const MESSAGE_WORDS: usize = 7;
@@ -54,7 +55,7 @@ fn receivers(node: usize) -> u32 {
 fn column(c: usize) -> [u32; COLUMN_WORDS]
     requires { ⌜ c < 32 ⌝ }
 {
-    [REFERENCE + WIDTH * c as u32, WIDTH]
+    [REFERENCE + WIDTH * c as u32, WIDTH, 0]
 }
 
 // The 32 columns, behind the header.
@@ -97,6 +98,7 @@ fn full() {
     columns(&mut p);
     messages(&mut p);
     show::round_trip(b"64 rows, 32 columns, 64 messages", &p);
+    moving::there_and_again(b"64 rows, 32 columns, 64 messages", &p, false);
     full_matrix(
         &p,
         b"0 0   0 1   1 0   1 1   2 0   2 1   3 0   3 1   4 0   4 1   5 0   5 1   6 0   6 1   7 0   7 1

@@ -7,6 +7,7 @@ mod document_004;
 mod document_01;
 mod document_02;
 mod limits;
+mod moves;
 mod places;
 
 // Document by document, and then our own.
@@ -14,6 +15,7 @@ fn main() {
     document_01::run();
     document_02::run();
     places::run();
+    moves::run();
     document_000::run();
     document_001::run();
     document_003::run();

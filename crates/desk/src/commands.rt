@@ -2,10 +2,15 @@
 use super::example;
 use super::holding;
 use files::input;
+use files::output;
 use judge::Judged;
 use planner::answer::Planned;
+use problem::Layout;
+use problem::layout::version_of;
+use problem::recast::column_words;
 use response::Responded;
 use triggers::Listed;
+use versions::Moved;
 use views::matrix;
 use views::tables;
 ghost use Rattle.rules.specs.Problem.{WellFormed};
@@ -25,6 +30,8 @@ enum Command {
     Times,
     Words,
     File,
+    Up,
+    Back,
     Help,
     Unknown,
 }
@@ -49,23 +56,29 @@ fn begin(view: View) {
     }
 }
 
+// Shows the problem of a file of that version.
+fn problem(layout: Layout, p: &[u32])
+    requires { ⌜ WellFormed (now p) ⌝ }
+{
+    tables::header(p, version_of(layout));
+    tables::messages(p);
+}
+
 // Shows a well-formed problem, or what a proposal makes of it.
-fn present(view: View, p: &[u32], w: &[u32])
+fn present(view: View, layout: Layout, p: &[u32], w: &[u32])
     requires { ⌜ WellFormed (now p) ⌝ }
 {
     begin(view);
     match view {
         View::Verdict => {}
         View::Problem => {
-            tables::header(p);
-            tables::messages(p);
+            problem(layout, p);
             matrix::show(p, w, false);
         }
-        View::Words => tables::problem_words(p),
+        View::Words => tables::problem_words(p, column_words(layout)),
         View::Proposal => tables::proposal_words(p, w),
         View::Matrix => {
-            tables::header(p);
-            tables::messages(p);
+            problem(layout, p);
             matrix::show(p, w, true);
             paper::end_line();
         }
@@ -79,10 +92,11 @@ fn present(view: View, p: &[u32], w: &[u32])
 
 // Reads a problem file and shows it, or says why it is refused.
 fn show(view: View, file: &[u8], w: &[u32]) {
+    let layout = input::layout(file);
     let mut words = [basics::FILL; rules::words::MOST_WORDS];
     let n = input::decoded(file, &mut words);
     if 0 < n {
-        present(view, &words[..n], w);
+        present(view, layout, &words[..n], w);
     }
 }
 
@@ -250,6 +264,44 @@ fn on_words() {
     paper::text(&bytes[..k]);
 }
 
+// Keeps a file that has been moved to a version under the name that an argument gives, and says how long it is.
+fn keep(bytes: &[u8], layout: Layout) {
+    if !output::keep(3, bytes) {
+        return;
+    }
+    paper::line(b"done");
+    paper::text_number(b"version ", version_of(layout));
+    paper::text_count(b", ", bytes.len());
+    paper::line(b" bytes");
+}
+
+// A file moved to a version.
+fn moved(file: &[u8], layout: Layout, out: &mut [u8]) -> Moved {
+    match layout {
+        Layout::One => versions::back(file, out),
+        Layout::Two => versions::up(file, out),
+    }
+}
+
+// A problem moved to a version.
+fn on_move(layout: Layout) {
+    let mut bytes = io::large_buffer();
+    let got = input::problem(2, &mut bytes);
+    if !got.is_good {
+        return;
+    }
+    let n = got.count;
+    let mut out = [0u8; problem::MOST_BYTES];
+    let told = moved(&bytes[..n], layout, &mut out);
+    match told {
+        Moved::Refused(q) => reasons::of_file(q, &bytes[..n], &[]),
+        Moved::File(k) => {
+            let k = input::within_bytes(k, &out);
+            keep(&out[..k], layout);
+        }
+    }
+}
+
 // Plans document 003's example, and shows the matrix, its losses and the list of node 0.
 fn on_example() {
     let mut words = [0u32; 151];
@@ -292,37 +344,43 @@ fn show_first_list(file: &[u8], w: &[u32]) {
 
 // The command that the first argument names.
 fn command_named(name: &[u8]) -> Command {
-    if input::is_same(name, b"show") {
+    if wordlist::is_same(name, b"show") {
         return Command::Show;
     }
-    if input::is_same(name, b"check") {
+    if wordlist::is_same(name, b"check") {
         return Command::Check;
     }
-    if input::is_same(name, b"plan") {
+    if wordlist::is_same(name, b"plan") {
         return Command::Plan;
     }
-    if input::is_same(name, b"losses") {
+    if wordlist::is_same(name, b"losses") {
         return Command::Losses;
     }
-    if input::is_same(name, b"lists") {
+    if wordlist::is_same(name, b"lists") {
         return Command::Lists;
     }
-    if input::is_same(name, b"hold") {
+    if wordlist::is_same(name, b"hold") {
         return Command::Hold;
     }
-    if input::is_same(name, b"due") {
+    if wordlist::is_same(name, b"due") {
         return Command::Due;
     }
-    if input::is_same(name, b"times") {
+    if wordlist::is_same(name, b"times") {
         return Command::Times;
     }
-    if input::is_same(name, b"words") {
+    if wordlist::is_same(name, b"words") {
         return Command::Words;
     }
-    if input::is_same(name, b"file") {
+    if wordlist::is_same(name, b"file") {
         return Command::File;
     }
-    if input::is_same(name, b"help") {
+    if wordlist::is_same(name, b"up") {
+        return Command::Up;
+    }
+    if wordlist::is_same(name, b"back") {
+        return Command::Back;
+    }
+    if wordlist::is_same(name, b"help") {
         return Command::Help;
     }
     Command::Unknown
@@ -332,7 +390,7 @@ fn command_named(name: &[u8]) -> Command {
 fn takes(command: Command, arguments: usize) -> bool {
     match command {
         Command::Show => (arguments == 3) | (arguments == 4),
-        Command::Check => arguments == 4,
+        Command::Check | Command::Up | Command::Back => arguments == 4,
         Command::Lists => (arguments == 4) | (arguments == 5),
         Command::Hold => arguments == 6,
         Command::Due => arguments == 5,
@@ -357,9 +415,11 @@ fn say_usage(command: Command) {
         Command::Times => paper::say(b"ttplan: use: ttplan times EVENTS\n"),
         Command::Words => paper::say(b"ttplan: use: ttplan words FILE\n"),
         Command::File => paper::say(b"ttplan: use: ttplan file WORDS\n"),
+        Command::Up => paper::say(b"ttplan: use: ttplan up FILE OUT\n"),
+        Command::Back => paper::say(b"ttplan: use: ttplan back FILE OUT\n"),
         Command::Help => paper::say(b"ttplan: use: ttplan help\n"),
         Command::Unknown => paper::say(
-            b"ttplan: no such command; they are show, check, plan, lists, hold, due, times, words, file and help\n",
+            b"ttplan: no such command; they are show, check, plan, lists, hold, due, times, words, file, up, back and help\n",
         ),
     }
 }
@@ -381,7 +441,11 @@ fn help() {
     paper::line(b"ttplan times EVENTS                 response times on a plain CAN bus");
     paper::line(b"ttplan words FILE                   a problem as a word list");
     paper::line(b"ttplan file WORDS                   a word list as a problem file");
-    paper::line(b"FILE is a problem file (.tsm) or a word list; the others are word lists:");
+    paper::line(b"ttplan up FILE OUT                  the file of version 2, kept as OUT");
+    paper::line(b"ttplan back FILE OUT                the file of version 1, kept as OUT");
+    paper::line(
+        b"FILE is a problem file (.tsm) or a word list, of either version; the others are word lists:",
+    );
     paper::line(b"decimal numbers between white space, # begins a comment.");
 }
 
@@ -408,6 +472,8 @@ fn obey(command: Command, arguments: usize) {
         Command::Help => help(),
         Command::Times => on_events(),
         Command::File => on_words(),
+        Command::Up => on_move(Layout::Two),
+        Command::Back => on_move(Layout::One),
         Command::Plan => on_problem(command),
         Command::Words => on_problem(command),
         Command::Show => {

@@ -1,16 +1,25 @@
 -- What a call wrote is counted by less than 2^32, so that the count fits a word.
-use Prim.Native.Nat.{ℕ, _<_}
+use Prim.Native.Nat.{ℕ, _*_, _<_, _≤_}
 use mathlib.Core.Path.{_≡_, refl, ap, subst}
 use mathlib.Core.List.{List}
+use native.Mathlib.Nat.{mul-le-mul}
 use native.Mathlib.Omega.{arith}
-use Rattle.rules.specs.Problem.{WellFormed}
+use lib.ListN.{length}
+use Rattle.rules.specs.Paper.{Answers}
+use Rattle.rules.specs.Problem.{columns, messages, WellFormed}
 use Rattle.rules.specs.declared.Fault.{Fault}
-use Rattle.rules.specs.declared.Fault.the-variants.{Clear}
+use Rattle.rules.specs.declared.Fault.the-variants.{Clear, Bad}
 use Rattle.rules.proofs.Faults.{bad-not-clear, clear-both}
-use Rattle.rules.proofs.Formed.{problem-kept}
 use Rattle.rules.proofs.Told.{answers-clear}
 use Rattle.problem.proofs.File.{length-file}
 use Rattle.problem.proofs.Wrong.{file-formed}
+use Rattle.problem.specs.declared.layout.Layout.{Layout}
+use Rattle.problem.specs.declared.layout.Layout.the-variants.{One, Two}
+use Rattle.problem.specs.Layout.{columnSize, messageSize}
+use Rattle.problem.specs.File.{layoutIn, wordsOf, fileOf}
+use Rattle.problem.specs.Callers.{columnWords, layoutBy}
+use Rattle.problem.proofs.Layouts.{column-size-most, message-size-most, column-words-are}
+use Rattle.problem.proofs.Callers.{recast-length, given-formed}
 use Rattle.reader.specs.declared.answer.Read.{Read}
 use Rattle.reader.specs.declared.answer.Read.the-variants.{Problem}
 use Rattle.reader.specs.Answer as ofReader
@@ -33,18 +42,40 @@ use Rattle.planner.specs.declared.answer.Planned.{Planned}
 use Rattle.planner.specs.declared.answer.Planned.the-variants.{Proposal}
 use Rattle.planner.specs.Answer as ofPlanner
 use Rattle.planner.specs.Promise.{Planning, Answered, refused, none, planned}
+use Rattle.versions.specs.declared.Moved.{Moved}
+use Rattle.versions.specs.Answer as ofVersions
+use Rattle.versions.specs.Promise.{Raising, Lowering}
 
 pub read-fits : (f : List ℕ) {d e : List ℕ} {r : Read} {n : ℕ} → Reading f d e r → r ≡ Problem n → n < 4294967296
 read-fits f h is =
     let wrote = answers-clear (ap ofReader.paper is) (ap ofReader.countOf is) h in
     let formed = file-formed f (clear-both _ _ (wrote .0) .0) in
-    omega (arith, formed .words, formed .header, wrote .1)
+    let most = column-words-are (layoutIn f) .1 in
+    let few : columnWords (layoutIn f) * columns (wordsOf f) ≤ 3 * 32 = mul-le-mul most (formed .header .columns-most) in
+    omega (arith, recast-length 3 (columnWords (layoutIn f)) (wordsOf f) (formed .words), few, formed .header .messages-most, wrote .1)
 
-pub write-fits : (p : List ℕ) {d e : List ℕ} {r : Written} {n : ℕ} → Writing p d e r → r ≡ File n → n < 4294967296
-write-fits p h is =
+-- the file of a well-formed problem is short
+file-small : (L : Layout) {p : List ℕ} → WellFormed p → length (fileOf L p) < 4294967296
+file-small L {p} formed =
+    let cs : columnSize L * columns p ≤ 5 * 32 = mul-le-mul (column-size-most L) (formed .header .columns-most) in
+    let ms : messageSize L * messages p ≤ 20 * 64 = mul-le-mul (message-size-most L) (formed .header .messages-most) in
+    omega (arith, length-file L p, cs, ms)
+
+pub write-fits : (w : List ℕ) {d e : List ℕ} {r : Written} {n : ℕ} → Writing w d e r → r ≡ File n → n < 4294967296
+write-fits w h is =
     let wrote = answers-clear (ap ofWriter.paper is) (ap ofWriter.countOf is) h in
-    let formed = problem-kept p .0 (clear-both _ _ (wrote .0) .0) in
-    omega (arith, length-file p, formed .header, wrote .1)
+    omega (arith, file-small (layoutBy w) (given-formed w (clear-both _ _ (wrote .0) .0) .0), wrote .1)
+
+-- a count is that of the output, or 0
+counted-fits : {x : Fault} {w d e : List ℕ} {r : Moved} → (x ≡ Clear → length w < 4294967296) → Answers ofVersions.paper ofVersions.countOf x w d e r → ofVersions.countOf r < 4294967296
+counted-fits {x = Clear} small h = omega (arith, h .count-is, small refl)
+counted-fits {x = Bad q} small h = omega (arith, h .count-is)
+
+pub up-fits : (f : List ℕ) {d e : List ℕ} {r : Moved} → Raising f d e r → ofVersions.countOf r < 4294967296
+up-fits f h = counted-fits (λ c. file-small Two (file-formed f (clear-both _ _ (clear-both _ _ c .0) .0))) h
+
+pub back-fits : (f : List ℕ) {d e : List ℕ} {r : Moved} → Lowering f d e r → ofVersions.countOf r < 4294967296
+back-fits f h = counted-fits (λ c. file-small One (file-formed f (clear-both _ _ (clear-both _ _ c .0) .0))) h
 
 pub lists-fits : (f : List ℕ) {w d e : List ℕ} {r : Listed} {n : ℕ} → Listing f w d e r → r ≡ Lists n → n < 4294967296
 lists-fits f h is =

@@ -17,7 +17,9 @@ use Rattle.planner.specs.Promise.{Planning}
 use Rattle.planner.proofs.Unique.{planning-one}
 use Rattle.response.specs.Promise.{Responding}
 use Rattle.response.proofs.Results.{responding-one}
-use Rattle.ffynorwel.specs.Eight.{readWords, writtenWords, judgedWords, listedWords, heldWords, dueWords, plannedWords, respondedWords}
+use Rattle.versions.specs.Promise.{Raising, Lowering}
+use Rattle.versions.proofs.Moving.{up-one, back-one}
+use Rattle.ffynorwel.specs.Eight.{readWords, writtenWords, movedWords, judgedWords, listedWords, heldWords, dueWords, plannedWords, respondedWords}
 use Rattle.ffynorwel.specs.Handed.{Handed}
 
 -- the call answered r, which is s, and the words of s were stored
@@ -40,6 +42,12 @@ module _ (f d : List ℕ) {e g x y : List ℕ} where
 
   pub ffy-write-one : Handed (Writing f d e) writtenWords x → Handed (Writing f d g) writtenWords y → (x ≡ y) × (e ≡ g)
   ffy-write-one = handed-both (λ r s a b. write-one f d e g r s a b)
+
+  pub ffy-up-one : Handed (Raising f d e) movedWords x → Handed (Raising f d g) movedWords y → (x ≡ y) × (e ≡ g)
+  ffy-up-one = handed-both (λ r s a b. up-one f a b)
+
+  pub ffy-back-one : Handed (Lowering f d e) movedWords x → Handed (Lowering f d g) movedWords y → (x ≡ y) × (e ≡ g)
+  ffy-back-one = handed-both (λ r s a b. back-one f a b)
 
   pub ffy-plan-one : Handed (Planning f d e) plannedWords x → Handed (Planning f d g) plannedWords y → (x ≡ y) × (e ≡ g)
   ffy-plan-one = handed-both (λ r s a b. planning-one a b)

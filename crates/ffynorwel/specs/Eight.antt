@@ -18,6 +18,8 @@ use Rattle.planner.specs.declared.answer.Planned.{Planned}
 use Rattle.planner.specs.Answer as ofPlanner
 use Rattle.response.specs.declared.Responded.{Responded}
 use Rattle.response.specs.Answer as ofResponse
+use Rattle.versions.specs.declared.Moved.{Moved}
+use Rattle.versions.specs.Answer as ofVersions
 
 -- number, place, second place and five figures
 abbrev pub eight : Paper → ℕ → ℕ → ℕ → ℕ → ℕ → List ℕ
@@ -33,6 +35,9 @@ readWords r = counted (ofReader.paper r) (ofReader.countOf r)
 
 abbrev pub writtenWords : Written → List ℕ
 writtenWords r = counted (ofWriter.paper r) (ofWriter.countOf r)
+
+abbrev pub movedWords : Moved → List ℕ
+movedWords r = counted (ofVersions.paper r) (ofVersions.countOf r)
 
 abbrev pub judgedWords : Judged → List ℕ
 judgedWords r = let t = ofJudge.figures r in eight (ofJudge.paper r) (t .reference) (t .used) (t .in_window) (t .empty) (t .gaps)

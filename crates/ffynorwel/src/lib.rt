@@ -8,6 +8,7 @@ use response::Responded;
 use rules::Paper;
 use rules::Refusal;
 use triggers::Listed;
+use versions::Moved;
 use writer::Written;
 ghost use mathlib.Core.Path.{_≡_};
 ghost use Prim.Native.Nat.{_<_};
@@ -19,7 +20,9 @@ ghost use Rattle.triggers.specs.Promise.{Listing};
 ghost use Rattle.log.specs.Promise.{Holding, DueWritten};
 ghost use Rattle.planner.specs.Promise.{Planning};
 ghost use Rattle.response.specs.Promise.{Responding};
-ghost use Rattle.ffynorwel.specs.Eight.{eight, counted, readWords, writtenWords, judgedWords, listedWords, heldWords, dueWords, plannedWords, respondedWords};
+ghost use Rattle.versions.specs.Answer.{countOf};
+ghost use Rattle.versions.specs.Promise.{Raising, Lowering};
+ghost use Rattle.ffynorwel.specs.Eight.{eight, counted, readWords, writtenWords, movedWords, judgedWords, listedWords, heldWords, dueWords, plannedWords, respondedWords};
 ghost use Rattle.ffynorwel.specs.Handed.{Handed};
 
 // Stores number, place, second place and figures.
@@ -85,6 +88,32 @@ pub extern "C" fn ffy_write(words: &[u32], file: &mut [u8], answer: &mut [u32; 8
         Written::File(n) => wrote(answer, n),
         Written::Refused(q) => refuse(answer, q),
     }
+}
+
+// Stores the answer of a move; the figure is how many bytes were written.
+fn store_moved(answer: &mut [u32; 8], got: Moved)
+    requires { ⌜ countOf got < 4294967296 ⌝ }
+    ensures { λ _. ⌜ now (answer .exit) ≡ movedWords got ⌝ }
+{
+    match got {
+        Moved::File(n) => wrote(answer, n),
+        Moved::Refused(q) => refuse(answer, q),
+    }
+}
+
+// versions::up, and versions::back.
+#[no_mangle]
+pub extern "C" fn ffy_up(file: &[u8], out: &mut [u8], answer: &mut [u32; 8])
+    ensures { λ _. ⌜ Handed (Raising (now (file .entry)) (now (out .entry)) (now (out .exit))) movedWords (now (answer .exit)) ⌝ }
+{
+    store_moved(answer, versions::up(file, out));
+}
+
+#[no_mangle]
+pub extern "C" fn ffy_back(file: &[u8], out: &mut [u8], answer: &mut [u32; 8])
+    ensures { λ _. ⌜ Handed (Lowering (now (file .entry)) (now (out .entry)) (now (out .exit))) movedWords (now (answer .exit)) ⌝ }
+{
+    store_moved(answer, versions::back(file, out));
 }
 
 // judge::judge; the figures are the five of the bus time.

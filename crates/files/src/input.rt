@@ -1,4 +1,6 @@
 // What the program is given: its arguments, and the files and word lists that they name. What cannot be read is said in one sentence on standard error.
+use problem::HEAD_BYTES;
+use problem::Layout;
 use reader::answer::Read;
 use writer::Written;
 ghost use Prim.Native.Nat.{_<_, _≤_};
@@ -24,7 +26,7 @@ pub fn within(n: usize, words: &[u32]) -> usize
 }
 
 // So many bytes of a buffer, or all of them.
-fn within_bytes(n: usize, bytes: &[u8]) -> usize
+pub fn within_bytes(n: usize, bytes: &[u8]) -> usize
     ensures { λ r. ⌜ Counts r (now (bytes .entry)) ⌝ }
 {
     if n <= bytes.len() { n } else { bytes.len() }
@@ -168,22 +170,7 @@ fn ends_with(s: &[u8], end: &[u8]) -> bool {
         return false;
     }
     let from = s.len() - end.len();
-    is_same(&s[from..], end)
-}
-
-// Whether bytes are the same.
-pub fn is_same(s: &[u8], t: &[u8]) -> bool {
-    if s.len() != t.len() {
-        return false;
-    }
-    let mut i: usize = 0;
-    while i < s.len() && i < t.len() {
-        if s[i] != t[i] {
-            return false;
-        }
-        i += 1;
-    }
-    true
+    wordlist::is_same(&s[from..], end)
 }
 
 // Whether bytes begin with the mark of a problem file.
@@ -206,6 +193,14 @@ pub fn decoded(file: &[u8], words: &mut [u32]) -> usize
         return 0;
     };
     n
+}
+
+// The version of a problem file.
+pub fn layout(file: &[u8]) -> Layout {
+    if file.len() < HEAD_BYTES {
+        return Layout::One;
+    }
+    reader::layout_in(file)
 }
 
 // Writes the file of a problem's words over the bytes lent, or says why they are refused.

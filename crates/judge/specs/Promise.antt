@@ -3,21 +3,15 @@ use Prim.Native.Nat.{ℕ}
 use mathlib.Core.Path.{_≡_}
 use mathlib.Core.List.{List}
 use mathlib.Core.Logic.{_↔_}
-use Rattle.rules.specs.declared.Fault.the-variants.{Clear}
 use Rattle.rules.specs.Problem.{InRange}
 use Rattle.rules.specs.Paper.{paperOf}
 use Rattle.rules.specs.Sends.{Acceptable}
 use Rattle.problem.specs.File.{wordsOf}
-use Rattle.problem.specs.Wrong.{fileFault}
+use Rattle.problem.specs.Wrong.{Reads}
 use Rattle.proposal.specs.Accepted.{checkFault}
 use Rattle.losses.specs.Losses.{FiguresAre}
 use Rattle.judge.specs.declared.answer.Judged.{Judged}
 use Rattle.judge.specs.Answer.{paper, figures}
-
--- the file f reads as the problem p
-pub record Reads (f p : List ℕ) : Type 0 where
-  pub clear : fileFault f ≡ Clear
-  pub words : wordsOf f ≡ p
 
 -- the file f and the proposal w are answered with r
 pub record Judging (f w : List ℕ) (r : Judged) : Type 0 where

@@ -20,7 +20,7 @@ use Rattle.reader.specs.declared.answer.Read.{Read}
 use Rattle.reader.specs.declared.answer.Read.the-variants.{Refused as Unread}
 use Rattle.reader.specs.Answer.{refusal}
 use Rattle.proposal.specs.Accept.{Admitted, Tested}
-use Rattle.proposal.proofs.Accepting.{refused-is}
+use Rattle.reader.proofs.Decoding.{refused-is}
 use Rattle.log.specs.declared.answer.Difference.{Difference}
 use Rattle.log.specs.declared.answer.Held.{Held}
 use Rattle.log.specs.declared.answer.Held.the-variants.{Clean, Differs, Refused}

@@ -24,7 +24,8 @@ use Rattle.reader.specs.declared.answer.Read.the-variants.{Refused as Unread}
 use Rattle.reader.specs.Answer.{refusal}
 use Rattle.proposal.specs.Accepted.{checkFault, Accepted}
 use Rattle.proposal.specs.Accept.{Admitted, Tested}
-use Rattle.proposal.proofs.Accepting.{refused-is, clear-accepted}
+use Rattle.reader.proofs.Decoding.{refused-is}
+use Rattle.proposal.proofs.Accepting.{clear-accepted}
 use Rattle.cells.specs.Table.{Table}
 use Rattle.log.specs.declared.answer.Due.{Due}
 use Rattle.log.specs.declared.answer.Due.the-variants.{Words, Refused}

@@ -1,21 +1,21 @@
 -- What shows the planner's promise, answer by answer.
 use Prim.Native.Nat.{ℕ, _<_, _≤_}
-use mathlib.Core.Path.{_≡_, refl, sym, ap, _∙_}
+use mathlib.Core.Path.{_≡_, refl, sym}
 use mathlib.Core.List.{List, _++_}
 use native.Mathlib.Omega.{arith}
 use borrow.Author.Tests.{lt-ltb, le-ltb}
 use lib.ListN.{length, take, drop}
 use lib.Seq.{length-take-le}
-use Rattle.rules.specs.declared.Fault.the-variants.{Clear, Bad}
+use Rattle.rules.specs.declared.Fault.the-variants.{Clear}
 use Rattle.rules.specs.declared.Refusal.{Refusal}
 use Rattle.rules.specs.declared.Refusal.the-variants.{NoPlan, TooMany, Room}
 use Rattle.rules.specs.Problem.{messages, proposalWords, WellFormed}
 use Rattle.rules.proofs.Told.{answers-refused}
-use Rattle.problem.specs.Wrong.{fileFault}
 use Rattle.reader.specs.declared.answer.Read.{Read}
 use Rattle.reader.specs.declared.answer.Read.the-variants.{Refused as NotRead}
 use Rattle.reader.specs.Answer.{refusal}
 use Rattle.reader.specs.Promise.{Decoded, Opened}
+use Rattle.reader.proofs.Decoding.{refused-is}
 use Rattle.places.specs.Places.{mostPlanned}
 use Rattle.planner.specs.declared.answer.Planned.{Planned}
 use Rattle.planner.specs.declared.answer.Planned.the-variants.{Proposal, Refused}
@@ -52,9 +52,7 @@ module _ (p d : List ℕ) where
 -- ---- the file
 module _ {f b : List ℕ} (d : List ℕ) where
   pub not-read : {x : Read} {q r : Refusal} → Decoded f b x → x ≡ NotRead q → r ≡ refusal x → Planning f d d (Refused r)
-  not-read {r = r} h e er =
-      let wrong : fileFault f ≡ Bad r = h .refuses _ e ∙ ap Bad (sym (er ∙ ap refusal e)) in
-      record { answered = refused r (rw wrong) (answers-refused r refl refl refl) }
+  not-read {r = r} h e er = record { answered = refused r (rw (refused-is h e er)) (answers-refused r refl refl refl) }
 
   pub is-read : {n : ℕ} {e : List ℕ} {r : Planned} → Opened f b n → Answered (unready (take n b) d) (take n b) d e r → Planning f d e r
   is-read o a = record { answered = rw (o .clear) (rw (o .front) at a) }

@@ -1,8 +1,9 @@
--- Laws of what is wrong with words and files: the chains of refusals by their cases, and that the words of a file with no fault are well-formed.
+-- Laws of what is wrong with a file and with a problem to be held: the chains of refusals by their cases, and what it says that they find nothing.
 use Prim.Native.Nat.{ℕ, _<_, _≤_}
-use mathlib.Core.Path.{_≡_, _∙_}
+use mathlib.Core.Path.{_≡_}
 use mathlib.Core.Bool.{true, false, not}
 use mathlib.Core.List.{List}
+use mathlib.Core.Logic.{_↔_}
 use native.Mathlib.Omega.{arith}
 use borrow.Author.Tests.{le-ltb, lt-ltb, eq-eqb, ne-eqb, ltb-false, eqb-true}
 use lib.Dec.{ltb, eqb}
@@ -12,14 +13,17 @@ use Rattle.rules.specs.declared.Fault.the-variants.{Clear, Bad}
 use Rattle.rules.specs.declared.Refusal.{Refusal}
 use Rattle.rules.specs.declared.Refusal.the-variants.{Length, Mark, Version, Header}
 use Rattle.rules.specs.Offsets.{lastByte}
-use Rattle.rules.specs.Refusal.{guard}
-use Rattle.rules.specs.Problem.{wordsFor, wordCount, columns, messages, Header as HeaderKept, WellFormed}
-use Rattle.rules.specs.Rules.{headerFault, wordsFault, problemFault}
-use Rattle.rules.proofs.Faults.{clear-guard, clear-both, clear-test}
+use Rattle.rules.specs.Refusal.{guard, firstFault}
+use Rattle.rules.specs.Problem.{wordCount, columns, messages, kind, identifier, Header as HeaderKept, WellFormed}
+use Rattle.rules.specs.Rules.{headerFault, wordsFault}
+use Rattle.rules.proofs.Faults.{clear-guard, clear-both, clear-test, clear-first, first-clear}
 use Rattle.rules.proofs.Formed.{header-kept, words-formed}
-use Rattle.problem.specs.File.{two, headBytes, bytesFor, headerOf, columnsIn, messagesIn, wordsOf}
+use Rattle.problem.specs.declared.layout.Layout.{Layout}
+use Rattle.problem.specs.declared.layout.Layout.the-variants.{One, Two}
+use Rattle.problem.specs.Layout.{isVersion, kindMost, identifierMost}
+use Rattle.problem.specs.File.{headBytes, bytesFor, headerOf, versionIn, layoutIn, columnsIn, messagesIn, wordsIn, wordsOf, Held}
 use Rattle.problem.specs.Parts.{Counted}
-use Rattle.problem.specs.Wrong.{marked, headFault, fileFault}
+use Rattle.problem.specs.Wrong.{marked, headFault, fileFault, columnUnheld, messageUnheld, heldFault}
 use Rattle.problem.proofs.File.{length-words}
 
 -- ---- words, by cases
@@ -32,36 +36,15 @@ formed-counted p k m f a b = record {
   messages-most = omega (arith, f .header .messages-most);
 }
 
-module _ (p : List ℕ) where
-  pub problem-short : length p < 7 → Bad Length ≡ problemFault p
-  unfolding problemFault
-  problem-short l = rw (lt-ltb (length p) 7 l)
-
-  module _ (long : 7 ≤ length p) where
-    pub problem-header : {x : Fault} {q : Refusal} → x ≡ headerFault p → x ≡ Bad q → x ≡ problemFault p
-    unfolding problemFault
-    problem-header e b = rw (le-ltb (length p) 7 long, ← e, b)
-
-    module _ (right : headerFault p ≡ Clear) where
-      pub problem-unlike : (length p ≡ wordCount p → ⊥) → Bad Length ≡ problemFault p
-      unfolding problemFault
-      problem-unlike n = rw (le-ltb (length p) 7 long, right, ne-eqb (length p) (wordCount p) n)
-
-      pub problem-rest : (x : Fault) → length p ≡ wordCount p → x ≡ wordsFault p → x ≡ problemFault p
-      unfolding problemFault
-      problem-rest x e h = rw (le-ltb (length p) 7 long, right, eq-eqb (length p) (wordCount p) e) h
-
-      pub header-few : {k m : ℕ} → k ≡ columns p → m ≡ messages p → (k ≤ 32) × (m ≤ 64)
-      header-few a b = let h = header-kept p .0 right in (omega arith, omega arith)
-
-      pub header-counted : {k m n : ℕ} → k ≡ columns p → m ≡ messages p → n ≡ wordsFor k m → length p ≡ n → Counted p k m
-      header-counted a b c e = let few = header-few a b in record { columns-are = a; messages-are = b; words = e ∙ c; columns-most = few .0; messages-most = few .1 }
-
 -- ---- a file's head, by cases
+-- how many bytes a file has by its header
+abbrev pub bytesIn : List ℕ → ℕ
+bytesIn f = bytesFor (layoutIn f) (columnsIn f) (messagesIn f)
+
 module _ (f : List ℕ) where
   -- the header's words, tested where they were read to
   pub header-read : {l : List ℕ} {x : Fault} → l ≡ headerOf f → x ≡ headerFault l → x ≡ headerFault (wordsOf f)
-  unfolding wordsOf headerFault
+  unfolding wordsIn headerFault
   header-read e h = rw e at h
 
   pub head-short : length f < headBytes → Bad Length ≡ headFault f
@@ -74,55 +57,53 @@ module _ (f : List ℕ) where
     head-unmarked e = rw (le-ltb (length f) headBytes long, e)
 
     module _ (mark : marked f ≡ true) where
-      pub head-other : (two f 3 ≡ 1 → ⊥) → Bad Version ≡ headFault f
+      pub head-other : isVersion (versionIn f) ≡ false → Bad Version ≡ headFault f
       unfolding headFault
-      head-other n = rw (le-ltb (length f) headBytes long, mark, ne-eqb (two f 3) 1 n)
+      head-other e = rw (le-ltb (length f) headBytes long, mark, e)
 
-      module _ (version : two f 3 ≡ 1) {x : Fault} (tested : x ≡ headerFault (wordsOf f)) where
+      module _ (version : isVersion (versionIn f) ≡ true) {x : Fault} (tested : x ≡ headerFault (wordsOf f)) where
         pub head-wrong : {q : Refusal} → x ≡ Bad q → x ≡ headFault f
         unfolding headFault
-        head-wrong e = rw (le-ltb (length f) headBytes long, mark, eq-eqb (two f 3) 1 version, ← tested, e)
+        head-wrong e = rw (le-ltb (length f) headBytes long, mark, version, ← tested, e)
 
         module _ (right : x ≡ Clear) where
           pub head-last : (getD f lastByte 0 ≡ 0 → ⊥) → Bad (Header lastByte) ≡ headFault f
           unfolding headFault
-          head-last n = rw (le-ltb (length f) headBytes long, mark, eq-eqb (two f 3) 1 version, ← tested, right, ne-eqb (getD f lastByte 0) 0 n)
+          head-last n = rw (le-ltb (length f) headBytes long, mark, version, ← tested, right, ne-eqb (getD f lastByte 0) 0 n)
 
           module _ (last : getD f lastByte 0 ≡ 0) where
-            pub head-unlike : (length f ≡ bytesFor (columnsIn f) (messagesIn f) → ⊥) → Bad Length ≡ headFault f
-            unfolding headFault wordsOf
-            head-unlike n =
-                rw (le-ltb (length f) headBytes long, mark, eq-eqb (two f 3) 1 version, ← tested, right, eq-eqb (getD f lastByte 0) 0 last, ne-eqb (length f) (bytesFor (columnsIn f) (messagesIn f)) n)
+            pub head-unlike : (length f ≡ bytesIn f → ⊥) → Bad Length ≡ headFault f
+            unfolding headFault wordsIn
+            head-unlike n = rw (le-ltb (length f) headBytes long, mark, version, ← tested, right, eq-eqb (getD f lastByte 0) 0 last, ne-eqb (length f) (bytesIn f) n)
 
-            pub head-clear : length f ≡ bytesFor (columnsIn f) (messagesIn f) → Clear ≡ headFault f
-            unfolding headFault wordsOf
-            head-clear e =
-                rw (le-ltb (length f) headBytes long, mark, eq-eqb (two f 3) 1 version, ← tested, right, eq-eqb (getD f lastByte 0) 0 last, eq-eqb (length f) (bytesFor (columnsIn f) (messagesIn f)) e)
+            pub head-clear : length f ≡ bytesIn f → Clear ≡ headFault f
+            unfolding headFault wordsIn
+            head-clear e = rw (le-ltb (length f) headBytes long, mark, version, ← tested, right, eq-eqb (getD f lastByte 0) 0 last, eq-eqb (length f) (bytesIn f) e)
 
 -- what a head with no fault says of the file
 pub record Head (f : List ℕ) : Type 0 where
   pub long : headBytes ≤ length f
   pub mark : marked f ≡ true
-  pub version : two f 3 ≡ 1
+  pub version : isVersion (versionIn f) ≡ true
   pub header : HeaderKept (wordsOf f)
   pub last : getD f lastByte 0 ≡ 0
-  pub bytes : length f ≡ bytesFor (columnsIn f) (messagesIn f)
+  pub bytes : length f ≡ bytesIn f
   pub columns-most : columnsIn f ≤ 32
   pub messages-most : messagesIn f ≤ 64
 
 pub head-right : (f : List ℕ) → headFault f ≡ Clear → Head f
-unfolding headFault wordsOf
+unfolding headFault wordsIn
 head-right f e =
     let a = clear-both (guard (ltb (length f) headBytes) Length) _ e in
     let b = clear-both (guard (not (marked f)) Mark) _ (a .1) in
-    let d = clear-both (guard (not (eqb (two f 3) 1)) Version) _ (b .1) in
+    let d = clear-both (guard (not (isVersion (versionIn f))) Version) _ (b .1) in
     let h = clear-both (headerFault (wordsOf f)) _ (d .1) in
     let z = clear-both (guard (not (eqb (getD f lastByte 0) 0)) (Header lastByte)) _ (h .1) in
     let r = header-kept (wordsOf f) .0 (h .0) in
     record {
       long = ltb-false _ _ (clear-guard _ _ (a .0));
       mark = clear-test _ _ (b .0);
-      version = eqb-true _ _ (clear-test _ _ (d .0));
+      version = clear-test _ _ (d .0);
       header = r;
       last = eqb-true _ _ (clear-test _ _ (z .0));
       bytes = eqb-true _ _ (clear-test _ _ (z .1));
@@ -145,9 +126,36 @@ module _ (f : List ℕ) where
   file-parts e = clear-both (headFault f) (wordsFault (wordsOf f)) e
 
   words-in : length (wordsOf f) ≡ wordCount (wordsOf f)
-  unfolding wordsOf
+  unfolding wordsIn
   words-in = length-words f
 
   -- The words of a file with no fault are a well-formed problem
   pub file-formed : fileFault f ≡ Clear → WellFormed (wordsOf f)
   file-formed e = let a = file-parts e in words-formed (wordsOf f) (head-right f (a .0) .header) words-in (a .1)
+
+-- ---- a layout has room for a problem exactly where nothing is found that it has no room for
+pub held-kept : (L : Layout) (p : List ℕ) → (heldFault L p ≡ Clear) ↔ Held L p
+unfolding heldFault
+held-kept L p = (
+  λ e.
+      let a = clear-both (firstFault (columns p) (columnUnheld L p)) _ e in
+      record {
+        kinds = λ c l. ltb-false _ _ (clear-guard _ _ (clear-first _ _ (a .0) c l));
+        identifiers = λ j l. ltb-false _ _ (clear-guard _ _ (clear-first _ _ (a .1) j l));
+      },
+  λ h.
+      let a : firstFault (columns p) (columnUnheld L p) ≡ Clear = first-clear _ _ λ c l. rw (le-ltb (kindMost L) (kind p c) (h .kinds c l)) in
+      let b : firstFault (messages p) (messageUnheld L p) ≡ Clear = first-clear _ _ λ j l. rw (le-ltb (identifierMost L) (identifier p j) (h .identifiers j l)) in
+      rw (a, b),
+)
+
+-- as yet every layout has room for every well-formed problem
+pub formed-held : (L : Layout) (p : List ℕ) → WellFormed p → Held L p
+formed-held L p f = record {
+  kinds = λ c l. omega (arith, f .column c l .kind-most);
+  identifiers = λ j l. let most = f .identity j l .identifier-most in room L most;
+}
+  where
+    room : (L : Layout) {i : ℕ} → i ≤ 2047 → i ≤ identifierMost L
+    room One h = omega arith
+    room Two h = omega arith

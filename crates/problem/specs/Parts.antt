@@ -9,6 +9,7 @@ use Rattle.rules.specs.declared.Fault.{Fault}
 use Rattle.rules.specs.declared.Refusal.the-variants.{Header}
 use Rattle.rules.specs.Refusal.{guard}
 use Rattle.rules.specs.Problem.{columnAt, messageAt, wordsFor, columns, messages, earliest}
+use Rattle.problem.specs.Callers.{saidFor}
 
 -- the fault of the header's number at byte b, where 0 is none
 unfoldable pub headerAt : ℕ → Fault
@@ -22,9 +23,18 @@ pub record Counted (p : List ℕ) (k m : ℕ) : Type 0 where
   pub columns-most : k ≤ 32
   pub messages-most : m ≤ 64
 
--- p has the two words of column c
+-- the words w of a caller have n for each of k columns, and m messages, as their header says
+pub record Said (w : List ℕ) (n k m : ℕ) : Type 0 where
+  pub columns-are : k ≡ columns w
+  pub words : length w ≡ saidFor n k m
+  pub least : 2 ≤ n
+  pub most : n ≤ 3
+  pub columns-most : k ≤ 32
+  pub messages-most : m ≤ 64
+
+-- p has the three words of column c
 pub record HasColumn (p : List ℕ) (c : ℕ) : Type 0 where
-  pub inside : columnAt c + 2 ≤ length p
+  pub inside : columnAt c + 3 ≤ length p
   pub few : c < 32
 
 -- which may start at `from`

@@ -1,8 +1,15 @@
-// The rules of a problem's words, tested: what reader and writer share.
+// What reader and writer share: the versions of the file, the words that callers see, and the rules of a problem's words, tested.
+
+pub mod layout;
+pub mod recast;
+
 use basics::has_bit;
 use basics::is_outside;
 use basics::long;
 use basics::wide;
+pub use layout::HEAD_BYTES;
+pub use layout::Layout;
+pub use layout::MOST_BYTES;
 use rules::Fault;
 use rules::Refusal;
 use rules::words;
@@ -14,23 +21,10 @@ ghost use Rattle.basics.specs.Bits.{bit};
 ghost use Rattle.basics.specs.Sums.{only};
 ghost use Rattle.rules.specs.Refusal.{guard, _⊕_, firstFault};
 ghost use Rattle.rules.specs.declared.Refusal.the-variants.{Header};
-ghost use Rattle.rules.specs.Problem.{headerWords, start, width, field, nodes, triggers};
+ghost use Rattle.rules.specs.Problem.{headerWords, start, width, kind, field, nodes, triggers};
 ghost use Rattle.rules.specs.Rules.{isRowCount, headerFault, columnWrong, repeated, identityWrong, onGrid, timingWrong};
 ghost use Rattle.rules.specs.Rules.{columnFault, messageFault, nodeFault, wordsFault};
-ghost use Rattle.problem.specs.File.{bytesFor};
 ghost use Rattle.problem.specs.Parts.{headerAt, Counted, HasColumn, Reached, HasMessage};
-
-// A file's header, a column's record and a message's record, in bytes.
-pub const HEAD_BYTES: usize = 16;
-
-pub const COLUMN_BYTES: usize = 4;
-
-pub const MESSAGE_BYTES: usize = 18;
-
-// No problem file has more bytes.
-pub const MOST_BYTES: usize = HEAD_BYTES
-    + COLUMN_BYTES * words::MOST_COLUMNS
-    + MESSAGE_BYTES * words::MOST_MESSAGES;
 
 // Where the numbers of a file's header stand.
 pub const VERSION_AT: usize = 3;
@@ -50,14 +44,6 @@ pub const COLUMNS_AT: usize = 13;
 pub const MESSAGES_AT: usize = 14;
 
 pub const LAST_AT: usize = 15;
-
-// How many bytes the file of k columns and m messages has.
-pub fn bytes_for(k: usize, m: usize) -> usize
-    requires { ⌜ (k < 256) × (m < 256) ⌝ }
-    ensures { λ r. ⌜ r ≡ bytesFor k m ⌝ }
-{
-    HEAD_BYTES + COLUMN_BYTES * k + MESSAGE_BYTES * m
-}
 
 // Whether a matrix may have r rows.
 fn is_row_count(r: u32) -> bool
@@ -138,8 +124,16 @@ fn width_in(words: &[u32], c: usize) -> u32
     words[words::column_at(c) + words::WIDTH]
 }
 
+// Of which kind column c is.
+pub fn kind_in(words: &[u32], c: usize) -> u32
+    requires { ⌜ HasColumn (now words) c ⌝ }
+    ensures { λ r. ⌜ r ≡ kind (now (words .entry)) c ⌝ }
+{
+    words[words::column_at(c) + words::KIND]
+}
+
 // Word i of message j, behind k columns.
-fn field_in(words: &[u32], k: usize, j: usize, i: usize) -> u32
+pub fn field_in(words: &[u32], k: usize, j: usize, i: usize) -> u32
     requires { ⌜ HasMessage (now words) k j × (i < 7) ⌝ }
     ensures { λ r. ⌜ r ≡ field (now (words .entry)) j i ⌝ }
 {
@@ -156,6 +150,7 @@ fn column_wrong(words: &[u32], c: usize, from: u64) -> bool
     (65535 < start)
         | (65535 < width)
         | (width == 0)
+        | (0 < kind_in(words, c))
         | (long(start) < from)
         | ((c + 1 == wide(words[words::COLUMNS]))
             & (long(words[words::CYCLE]) < end_of(start, width)))

@@ -1,6 +1,6 @@
 -- A file and a proposal that are tested: what is refused, and what then stands in the buffer.
 use Prim.Native.Nat.{ℕ}
-use mathlib.Core.Path.{_≡_, sym, ap, _∙_}
+use mathlib.Core.Path.{_≡_, sym, _∙_}
 use mathlib.Core.List.{List}
 use lib.ListN.{length, take}
 use lib.Seq.{length-take-le}
@@ -14,7 +14,6 @@ use Rattle.problem.specs.Wrong.{fileFault}
 use Rattle.problem.proofs.Wrong.{file-formed}
 use Rattle.reader.specs.declared.answer.Read.{Read}
 use Rattle.reader.specs.declared.answer.Read.the-variants.{Problem, Refused}
-use Rattle.reader.specs.Answer.{refusal}
 use Rattle.reader.specs.Promise.{Opened, Decoded}
 use Rattle.reader.proofs.Decoding.{answered-bad, answered-words}
 use Rattle.proposal.specs.Accepted.{checkFault, Accepted}
@@ -48,8 +47,5 @@ pub clear-accepted : (f w : List ℕ) → checkFault f w ≡ Clear → Accepted 
 clear-accepted f w e = let parts = clear-both (fileFault f) (proposalFault (wordsOf f) w) e in record { formed = file-formed f (parts .0); faultless = parts .1 }
 
 -- ---- what the calls make of it
-pub refused-is : {f w e : List ℕ} {r : Read} {q t : Refusal} → Tested f w e r → r ≡ Refused q → t ≡ refusal r → checkFault f w ≡ Bad t
-refused-is {q = q} h is t-is = h .refuses q is ∙ ap Bad (sym (t-is ∙ ap refusal is))
-
 pub admitted-length : {f w e : List ℕ} {n : ℕ} → Admitted f w e n → length (take n e) ≡ n
 admitted-length {e = e} {n = n} a = length-take-le n e (a .within)

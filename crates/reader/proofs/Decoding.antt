@@ -10,21 +10,26 @@ use Rattle.rules.specs.declared.Fault.{Fault}
 use Rattle.rules.specs.declared.Fault.the-variants.{Clear, Bad}
 use Rattle.rules.specs.declared.Refusal.{Refusal}
 use Rattle.rules.specs.declared.Refusal.the-variants.{Room}
-use Rattle.problem.specs.File.{columnsIn, messagesIn, wordsOf}
+use Rattle.problem.specs.declared.layout.Layout.{Layout}
+use Rattle.problem.specs.File.{layoutIn, columnsIn, messagesIn, wordsIn, wordsOf}
+use Rattle.problem.specs.Callers.{columnWords, saidFor, recast, saidOf}
 use Rattle.problem.specs.Wrong.{headFault, fileFault}
+use Rattle.problem.specs.Parts.{Said}
 use Rattle.rules.specs.Problem.{wordsFor, mostWords}
 use Rattle.rules.specs.Rules.{wordsFault}
 use Rattle.problem.proofs.File.{length-words}
 use Rattle.problem.proofs.Wrong.{Head, file-rest, file-formed}
+use Rattle.problem.proofs.Callers.{recast-length}
 use Rattle.reader.specs.declared.answer.Read.{Read}
 use Rattle.reader.specs.declared.answer.Read.the-variants.{Problem, Refused}
 use Rattle.rules.proofs.Told.{answers-refused, answers-done}
-use Rattle.reader.specs.Answer.{paper, countOf}
+use Rattle.reader.specs.Answer.{paper, countOf, refusal}
 use Rattle.reader.specs.Promise.{Answered, Laid, Opened, Decoded, Reading}
 use Rattle.reader.specs.Parts.{Sized}
 
-pub head-sized : (f : List ℕ) (k m : ℕ) → Head f → k ≡ columnsIn f → m ≡ messagesIn f → Sized f k m
-head-sized f k m h p q = record { columns-are = p; messages-are = q; bytes = omega arith; columns-most = omega arith; messages-most = omega arith }
+pub head-sized : {L : Layout} (f : List ℕ) (k m : ℕ) → Head f → L ≡ layoutIn f → k ≡ columnsIn f → m ≡ messagesIn f → Sized L f k m
+head-sized f k m h l p q =
+    record { columns-are = p; messages-are = q; bytes = rw (l, p, q) (h .bytes); columns-most = omega arith; messages-most = omega arith }
 
 -- ---- an answer is a refusal or so many words
 module _ {x : Fault} {P : ℕ → Type 0} {r : Read} where
@@ -40,10 +45,16 @@ module _ {x : Fault} {P : ℕ → Type 0} {r : Read} where
     opens = λ i s. let i-is : n ≡ i = cc in rw (← i-is) h;
   }
 
+-- a refusal that is handed on
+pub refused-is : {x : Fault} {P : ℕ → Type 0} {r : Read} {q t : Refusal} → Answered x P r → r ≡ Refused q → t ≡ refusal r → x ≡ Bad t
+refused-is {q = q} h is t-is = h .refuses q is ∙ ap Bad (sym (t-is ∙ ap refusal is))
+
 -- the words of a file with k columns and m messages, which are n, stand in front of the buffer e
-pub laid : (f w e : List ℕ) (k m n : ℕ) → headFault f ≡ Clear → Sized f k m → mostWords ≤ length e → e ≡ wordsOf f ++ drop (wordsFor k m) w → n ≡ wordsFor k m → Laid f e n
-unfolding wordsOf
-laid f w e k m n clear s l put n-is =
+pub laid : {L : Layout} (f w e : List ℕ) (k m n : ℕ) → headFault f ≡ Clear → L ≡ layoutIn f → Sized L f k m → mostWords ≤ length e
+    → e ≡ wordsIn L f ++ drop (wordsFor k m) w → n ≡ wordsFor k m → Laid f e n
+unfolding wordsIn
+laid f w e k m n clear layout s l read n-is =
+    let put : e ≡ wordsOf f ++ drop (wordsFor k m) w = rw layout at read in
     let count : length (wordsOf f) ≡ n = rw (n-is, s .columns-are, s .messages-are) (length-words f) in
     let front : take n e ≡ wordsOf f = rw put (take-at (wordsOf f) (drop (wordsFor k m) w) n count) in
     record {
@@ -76,17 +87,33 @@ module _ {f e : List ℕ} {n : ℕ} (a : Laid f e n) {x : Fault} (tested : x ≡
 pub opened-length : {f b : List ℕ} {n : ℕ} → Opened f b n → length (take n b) ≡ n
 opened-length {f} {b} {n} o = length-take-le n b (o .within)
 
+-- and have three for each column
+pub opened-said : {f b : List ℕ} {n k m : ℕ} → Opened f b n → k ≡ columnsIn f → m ≡ messagesIn f → Said (take n b) 3 k m
+unfolding wordsIn
+opened-said {f} o ek em =
+    let formed = file-formed f (o .clear) in
+    rw (o .front) (record {
+      columns-are = ek;
+      words = length-words f ∙ rw (ek, em);
+      least = omega arith;
+      most = omega arith;
+      columns-most = omega (arith, ek, formed .header .columns-most);
+      messages-most = omega (arith, em, formed .header .messages-most);
+    })
+
 -- ---- the caller's own buffer
 module _ (f d b : List ℕ) where
   pub reading-refused : (r : Read) (q : Refusal) → Decoded f b r → r ≡ Refused q → Reading f d d r
   reading-refused r q h e = answers-refused q (ap paper e) (ap countOf e) (rw (h .refuses q e))
 
-  module _ (n : ℕ) (o : Opened f b n) where
-    words-are : length (wordsOf f) ≡ n
-    words-are = ap length (sym (o .front)) ∙ opened-length o
+  -- what callers see of the words, where t are said of each column
+  module _ {n t k m c : ℕ} (o : Opened f b n) (et : t ≡ columnWords (layoutIn f)) (ek : k ≡ columnsIn f) (em : m ≡ messagesIn f) (ec : c ≡ saidFor t k m) where
+    said-are : length (saidOf f) ≡ c
+    unfolding wordsIn
+    said-are = recast-length 3 (columnWords (layoutIn f)) (wordsOf f) (file-formed f (o .clear) .words) ∙ rw (ec, et, ek, em)
 
-    pub reading-short : length d < n → Reading f d d (Refused Room)
-    reading-short l = answers-refused Room refl refl (rw (o .clear, words-are, lt-ltb (length d) n l))
+    pub reading-short : length d < c → Reading f d d (Refused Room)
+    reading-short l = answers-refused Room refl refl (rw (o .clear, said-are, lt-ltb (length d) c l))
 
-    pub reading-done : (e : List ℕ) → n ≤ length d → e ≡ take n b ++ drop (length (take n b)) d → Reading f d e (Problem n)
-    reading-done e l w = answers-done refl refl (rw (o .clear, words-are, le-ltb (length d) n l)) words-are (w ∙ rw (opened-length o, o .front))
+    pub reading-done : {e : List ℕ} → c ≤ length d → e ≡ recast 3 t (take n b) ++ drop (saidFor t k m) d → Reading f d e (Problem c)
+    reading-done l w = answers-done refl refl (rw (o .clear, said-are, le-ltb (length d) c l)) said-are (w ∙ rw (o .front, ec, et))

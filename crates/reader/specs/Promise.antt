@@ -10,6 +10,7 @@ use Rattle.rules.specs.Problem.{WellFormed}
 use Rattle.rules.specs.Paper.{Answers, roomFault}
 use Rattle.rules.specs.Refusal.{_⊕_}
 use Rattle.problem.specs.File.{columnsIn, messagesIn, wordsOf}
+use Rattle.problem.specs.Callers.{saidOf}
 use Rattle.problem.specs.Parts.{Counted}
 use Rattle.problem.specs.Wrong.{headFault, fileFault}
 use Rattle.reader.specs.declared.answer.Read.{Read}
@@ -45,8 +46,8 @@ Decoded f e = Answered (fileFault f) (Opened f e)
 -- ---- to everyone
 -- what is wrong with reading f into a buffer of `room` words
 abbrev pub readFault : List ℕ → ℕ → Fault
-readFault f room = fileFault f ⊕ roomFault (length (wordsOf f)) room
+readFault f room = fileFault f ⊕ roomFault (length (saidOf f)) room
 
 -- f is read into the buffer d, which then is e, with the answer r
 abbrev pub Reading : List ℕ → List ℕ → List ℕ → Read → Type 0
-Reading f d e r = Answers paper countOf (readFault f (length d)) (wordsOf f) d e r
+Reading f d e r = Answers paper countOf (readFault f (length d)) (saidOf f) d e r

@@ -4,21 +4,31 @@ pub mod answer;
 pub use answer::Read;
 use basics::FILL;
 use basics::byte;
-use basics::copy_words;
 use basics::wide_byte;
-use problem::bytes_for;
+use problem::Layout;
 use problem::header_fault;
+use problem::layout::bytes_for;
+use problem::layout::column_size;
+use problem::layout::identifier_size;
+use problem::layout::is_version;
+use problem::layout::layout_of;
+use problem::layout::message_size;
+use problem::recast::column_words;
+use problem::recast::recast;
+use problem::recast::said_for;
 use problem::words_fault;
 use rules::Fault;
 use rules::Refusal;
 use rules::words;
 ghost use mathlib.Core.Path.{_≡_};
-ghost use mathlib.Core.List.{_++_};
+ghost use mathlib.Core.List.{_∷_, _++_};
 ghost use Prim.Native.Nat.{_+_, _*_, _<_, _≤_};
-ghost use lib.ListN.{length, drop};
+ghost use lib.ListN.{length, getD, drop};
 ghost use Rattle.basics.specs.Runs.{Turned};
 ghost use Rattle.rules.specs.Problem.{headerWords, wordsFor, mostWords};
-ghost use Rattle.problem.specs.File.{two, four, headBytes, headerOf, columnOf, messageOf, columnsIn, messagesIn, wordsOf};
+ghost use Rattle.problem.specs.Bytes.{two, four};
+ghost use Rattle.problem.specs.Layout.{kindOf, identifierOf, columnSize, columnOf, restOf, messageSize, messageOf};
+ghost use Rattle.problem.specs.File.{headBytes, headerOf, layoutIn, columnsIn, messagesIn, wordsIn};
 ghost use Rattle.problem.specs.Wrong.{marked, headFault};
 ghost use Rattle.reader.specs.Promise.{Taken, Decoded, Reading};
 ghost use Rattle.reader.specs.Parts.{Sized};
@@ -62,55 +72,97 @@ pub fn read_header(file: &[u8], words: &mut [u32])
     words[words::MESSAGES] = byte(file[problem::MESSAGES_AT]);
 }
 
-// A column's record of 4 bytes, as two words.
-fn read_column(bytes: &[u8], words: &mut [u32])
-    requires { ⌜ (length (now bytes) ≡ 4) × (length (now words) ≡ 2) ⌝ }
-    ensures { λ _. ⌜ now (words .exit) ≡ columnOf (now (bytes .entry)) ⌝ }
+// The kind in a column's record.
+fn kind_in(layout: Layout, bytes: &[u8]) -> u32
+    requires { ⌜ length (now bytes) ≡ columnSize layout ⌝ }
+    ensures { λ r. ⌜ r ≡ kindOf layout (now (bytes .entry)) ⌝ }
+{
+    match layout {
+        Layout::One => 0,
+        Layout::Two => byte(bytes[4]),
+    }
+}
+
+// A column's record, as three words.
+fn read_column(layout: Layout, bytes: &[u8], words: &mut [u32])
+    requires { ⌜ (length (now bytes) ≡ columnSize layout) × (length (now words) ≡ 3) ⌝ }
+    ensures { λ _. ⌜ now (words .exit) ≡ columnOf layout (now (bytes .entry)) ⌝ }
 {
     words[words::START] = two_bytes(bytes, 0);
     words[words::WIDTH] = two_bytes(bytes, 2);
+    words[words::KIND] = kind_in(layout, bytes);
 }
 
 // The column records, each handed on as a part.
-fn read_columns(part: &[u8], k: usize, words: &mut [u32])
-    requires { ⌜ (4 * k ≤ length (now part)) × (2 * k ≤ length (now words)) × (k ≤ 32) ⌝ }
-    ensures { λ _. ⌜ Turned columnOf 4 2 (now (part .entry)) (now (words .entry)) k (now (words .exit)) ⌝ }
+fn read_columns(layout: Layout, part: &[u8], k: usize, words: &mut [u32])
+    requires { ⌜ (columnSize layout * k ≤ length (now part)) × (3 * k ≤ length (now words)) × (k ≤ 32) ⌝ }
+    ensures { λ _. ⌜ Turned (columnOf layout) (columnSize layout) 3 (now (part .entry)) (now (words .entry)) k (now (words .exit)) ⌝ }
 {
+    let size = column_size(layout);
     let mut c: usize = 0;
     while c < k {
-        let from = 4 * c;
-        let to = 2 * c;
-        read_column(&part[from..from + 4], &mut words[to..to + 2]);
+        let from = size * c;
+        let to = 3 * c;
+        read_column(layout, &part[from..from + size], &mut words[to..to + 3]);
         c += 1;
     }
 }
 
-// A message's record of 18 bytes, as seven words.
-fn read_message(bytes: &[u8], words: &mut [u32])
-    requires { ⌜ (length (now bytes) ≡ 18) × (length (now words) ≡ 7) ⌝ }
-    ensures { λ _. ⌜ now (words .exit) ≡ messageOf (now (bytes .entry)) ⌝ }
+// The identifier in a message's record.
+fn identifier_in(layout: Layout, bytes: &[u8]) -> u32
+    requires { ⌜ 4 ≤ length (now bytes) ⌝ }
+    ensures { λ r. ⌜ r ≡ identifierOf layout (now (bytes .entry)) ⌝ }
 {
-    words[words::IDENTIFIER] = two_bytes(bytes, 0);
-    words[words::SENDER] = byte(bytes[2]);
-    words[words::SIZE] = byte(bytes[3]);
-    words[words::RECEIVERS] = two_bytes(bytes, 4);
-    words[words::PERIOD] = four_bytes(bytes, 6);
-    words[words::OFFSET] = four_bytes(bytes, 10);
-    words[words::DEADLINE] = four_bytes(bytes, 14);
+    match layout {
+        Layout::One => two_bytes(bytes, 0),
+        Layout::Two => four_bytes(bytes, 0),
+    }
+}
+
+// The 16 bytes behind a message's identifier, as the six words behind it.
+fn read_rest(bytes: &[u8], words: &mut [u32])
+    requires { ⌜ (length (now bytes) ≡ 16) × (length (now words) ≡ 7) ⌝ }
+    ensures { λ _. ⌜ now (words .exit) ≡ getD (now (words .entry)) 0 0 ∷ restOf (now (bytes .entry)) ⌝ }
+{
+    words[words::SENDER] = byte(bytes[0]);
+    words[words::SIZE] = byte(bytes[1]);
+    words[words::RECEIVERS] = two_bytes(bytes, 2);
+    words[words::PERIOD] = four_bytes(bytes, 4);
+    words[words::OFFSET] = four_bytes(bytes, 8);
+    words[words::DEADLINE] = four_bytes(bytes, 12);
+}
+
+// A message's record, as seven words.
+fn read_message(layout: Layout, bytes: &[u8], words: &mut [u32])
+    requires { ⌜ (length (now bytes) ≡ messageSize layout) × (length (now words) ≡ 7) ⌝ }
+    ensures { λ _. ⌜ now (words .exit) ≡ messageOf layout (now (bytes .entry)) ⌝ }
+{
+    let behind = identifier_size(layout);
+    read_rest(&bytes[behind..], words);
+    words[words::IDENTIFIER] = identifier_in(layout, bytes);
 }
 
 // The message records, each handed on as a part.
-fn read_messages(part: &[u8], m: usize, words: &mut [u32])
-    requires { ⌜ (18 * m ≤ length (now part)) × (7 * m ≤ length (now words)) × (m ≤ 64) ⌝ }
-    ensures { λ _. ⌜ Turned messageOf 18 7 (now (part .entry)) (now (words .entry)) m (now (words .exit)) ⌝ }
+fn read_messages(layout: Layout, part: &[u8], m: usize, words: &mut [u32])
+    requires { ⌜ (messageSize layout * m ≤ length (now part)) × (7 * m ≤ length (now words)) × (m ≤ 64) ⌝ }
+    ensures { λ _. ⌜ Turned (messageOf layout) (messageSize layout) 7 (now (part .entry)) (now (words .entry)) m (now (words .exit)) ⌝ }
 {
+    let size = message_size(layout);
     let mut j: usize = 0;
     while j < m {
-        let from = 18 * j;
+        let from = size * j;
         let to = 7 * j;
-        read_message(&part[from..from + 18], &mut words[to..to + 7]);
+        read_message(layout, &part[from..from + size], &mut words[to..to + 7]);
         j += 1;
     }
+}
+
+// The layout of the version that the file says.
+pub fn layout_in(file: &[u8]) -> Layout
+    requires { ⌜ headBytes ≤ length (now file) ⌝ }
+    ensures { λ r. ⌜ r ≡ layoutIn (now (file .entry)) ⌝ }
+{
+    layout_of(two_bytes(file, problem::VERSION_AT))
 }
 
 // How many columns the file says that it has.
@@ -139,7 +191,8 @@ fn head_fault(file: &[u8]) -> Fault
     if !is_marked(file) {
         return Fault::Bad(Refusal::Mark);
     }
-    if two_bytes(file, problem::VERSION_AT) != 1 {
+    let version = two_bytes(file, problem::VERSION_AT);
+    if !is_version(version) {
         return Fault::Bad(Refusal::Version);
     }
     let mut head = [0u32; words::HEADER_WORDS];
@@ -151,29 +204,27 @@ fn head_fault(file: &[u8]) -> Fault
     if file[problem::LAST_AT] != 0 {
         return Fault::Bad(Refusal::Header(problem::LAST_AT as u32));
     }
-    if file.len() != bytes_for(columns_in(file), messages_in(file)) {
+    if file.len() != bytes_for(layout_of(version), columns_in(file), messages_in(file)) {
         return Fault::Bad(Refusal::Length);
     }
     Fault::Clear
 }
 
 // The words of a file whose header and length are right, in front of what the buffer holds.
-fn read_words(file: &[u8], k: usize, m: usize, words: &mut [u32])
-    requires { ⌜ Sized (now file) k m × (mostWords ≤ length (now words)) ⌝ }
-    ensures { λ _. ⌜ now (words .exit) ≡ wordsOf (now (file .entry)) ++ drop (wordsFor k m) (now (words .entry)) ⌝ }
+fn read_words(layout: Layout, file: &[u8], k: usize, m: usize, words: &mut [u32])
+    requires { ⌜ Sized layout (now file) k m × (mostWords ≤ length (now words)) ⌝ }
+    ensures { λ _. ⌜ now (words .exit) ≡ wordsIn layout (now (file .entry)) ++ drop (wordsFor k m) (now (words .entry)) ⌝ }
 {
     read_header(file, &mut words[..words::HEADER_WORDS]);
     read_columns(
+        layout,
         &file[problem::HEAD_BYTES..],
         k,
         &mut words[words::HEADER_WORDS..],
     );
+    let from = bytes_for(layout, k, 0);
     let to = words::column_at(k);
-    read_messages(
-        &file[problem::HEAD_BYTES + problem::COLUMN_BYTES * k..],
-        m,
-        &mut words[to..],
-    );
+    read_messages(layout, &file[from..], m, &mut words[to..]);
 }
 
 // The words of a file whose header and length are right, in the front of a buffer that is large enough for any problem, or the refusal. The words are not tested.
@@ -187,7 +238,7 @@ pub fn words_in(file: &[u8], words: &mut [u32]) -> Read
     }
     let k = columns_in(file);
     let m = messages_in(file);
-    read_words(file, k, m, words);
+    read_words(layout_in(file), file, k, m, words);
     Read::Problem(words::message_at(k, m))
 }
 
@@ -207,7 +258,7 @@ pub fn decode(file: &[u8], words: &mut [u32]) -> Read
     got
 }
 
-// Reads a problem file into the caller's buffer, which keeps its words beyond the problem's.
+// Reads a problem file of either version into the caller's buffer, which keeps its words beyond the problem's.
 pub fn read(file: &[u8], words: &mut [u32]) -> Read
     ensures { λ r. ⌜ Reading (now (file .entry)) (now (words .entry)) (now (words .exit)) r ⌝ }
 {
@@ -216,9 +267,13 @@ pub fn read(file: &[u8], words: &mut [u32]) -> Read
     let Read::Problem(n) = got else {
         return got;
     };
-    if words.len() < n {
+    let said = column_words(layout_in(file));
+    let k = columns_in(file);
+    let m = messages_in(file);
+    let count = said_for(said, k, m);
+    if words.len() < count {
         return Read::Refused(Refusal::Room);
     }
-    copy_words(&buffer[..n], words);
-    Read::Problem(n)
+    recast(&buffer[..n], words::COLUMN_WORDS, said, k, m, words);
+    Read::Problem(count)
 }

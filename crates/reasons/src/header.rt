@@ -2,9 +2,11 @@
 use super::fields::word;
 use super::found;
 use super::found_count;
-use super::records;
 use basics::wide;
 use problem::HEAD_BYTES;
+use problem::layout::bytes_for;
+use problem::layout::is_version;
+use problem::layout::version_of;
 use rules::words;
 
 // So many columns and messages.
@@ -22,8 +24,10 @@ pub fn file_length(file: &[u8]) {
     }
     let columns = reader::columns_in(file);
     let messages = reader::messages_in(file);
+    let layout = reader::layout_in(file);
     contents(columns, messages);
-    paper::text_count(b" make a file of ", problem::bytes_for(columns, messages));
+    paper::text_number(b" make a file of version ", version_of(layout));
+    paper::text_count(b" of ", bytes_for(layout, columns, messages));
     found_count(b" bytes", file.len());
 }
 
@@ -33,24 +37,26 @@ pub fn words_length(words: &[u32]) {
         found_count(b"a problem has at least 7 words", words.len());
         return;
     }
+    let columns = wide(word(words, words::COLUMNS));
     let messages = wide(word(words, words::MESSAGES));
-    contents(wide(word(words, words::COLUMNS)), messages);
-    paper::text_count(
-        b" make ",
-        records::messages_at(words) + words::MESSAGE_WORDS * messages,
-    );
-    found_count(b" words", words.len());
+    let least = words::HEADER_WORDS + 2 * columns + words::MESSAGE_WORDS * messages;
+    contents(columns, messages);
+    paper::text_count(b" make ", least);
+    paper::text_count(b" words in version 1 and ", least + columns);
+    found_count(b" in version 2", words.len());
 }
 
-// The version of a file.
+// The version of a file: there is no such, or it is the one that the file was to be moved to.
 pub fn version(file: &[u8]) {
     if file.len() < HEAD_BYTES {
         return;
     }
-    found(
-        b"the version of the file must be 1",
-        reader::two_bytes(file, problem::VERSION_AT),
-    );
+    let version = reader::two_bytes(file, problem::VERSION_AT);
+    if is_version(version) {
+        paper::text_number(b"the file is already of version ", version);
+        return;
+    }
+    found(b"the version of the file must be 1 or 2", version);
 }
 
 // The rule of the limit, the columns or the messages.

@@ -42,6 +42,10 @@ fn explain(q: Refusal) {
         Refusal::Mark => paper::text(b"the file does not begin with the mark TSM"),
         Refusal::NoPlan => paper::text(b"no acceptable proposal exists"),
         Refusal::Room => paper::text(b"the output is longer than its room"),
+        Refusal::Unheld(i) => paper::text_number(
+            b"version 1 has no room for the kind of column, else for the identifier of message ",
+            i,
+        ),
         _ => {
             let told = rules::paper_of(q);
             paper::text_number(b"place ", told.place);
@@ -78,7 +82,7 @@ pub fn of_words(q: Refusal, words: &[u32]) {
         Refusal::Length => header::words_length(words),
         Refusal::Header(b) => header::number(words, b),
         Refusal::Column(_) | Refusal::Identity(_) | Refusal::Timing(_) | Refusal::Triggers(_) =>
-            records::of_words(q, words),
+            records::of_said(q, words),
         _ => explain(q),
     }
     paper::end_line();

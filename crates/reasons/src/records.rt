@@ -40,6 +40,15 @@ fn before(c: u32) {
     paper::text(b" ends");
 }
 
+// The rule of a column's kind: arbitration windows are known, but not taken yet.
+fn kind_rule(kind: u32) {
+    if kind == 1 {
+        paper::text(b"it is an arbitration window (kind 1), which is not taken yet");
+        return;
+    }
+    found(b"the kind must be 0, an exclusive window", kind);
+}
+
 // The first rule that a column breaks.
 fn column_rule(words: &[u32], columns: &[u32], c: u32, start: u32, width: u32) {
     let from = earliest(words, columns, c);
@@ -47,6 +56,8 @@ fn column_rule(words: &[u32], columns: &[u32], c: u32, start: u32, width: u32) {
         paper::text(b"the start must be at most 65535");
     } else if is_outside(width, 1, MOST) {
         paper::text(b"the width must be 1 to 65535");
+    } else if 0 < field(columns, COLUMN_WORDS, c, words::KIND) {
+        kind_rule(field(columns, COLUMN_WORDS, c, words::KIND));
     } else if wide(start) < from {
         paper::text_count(b"it must not start below ", from);
         before(c);
@@ -70,7 +81,7 @@ fn column(words: &[u32], columns: &[u32], c: u32) {
 // ---- messages
 
 // Where the words of the messages begin.
-pub fn messages_at(words: &[u32]) -> usize
+fn messages_at(words: &[u32]) -> usize
     ensures { λ r. ⌜ r < 17179869184 ⌝ }
 {
     words::HEADER_WORDS + COLUMN_WORDS * wide(word(words, words::COLUMNS))
@@ -165,7 +176,7 @@ fn node(words: &[u32], n: u32) {
 // ---- all of them
 
 // What is wrong with a problem's words behind their header.
-pub fn of_words(q: Refusal, words: &[u32]) {
+fn of_words(q: Refusal, words: &[u32]) {
     let columns = smaller(words::HEADER_WORDS, words.len());
     let messages = smaller(messages_at(words), words.len());
     match q {
@@ -180,6 +191,15 @@ pub fn of_words(q: Refusal, words: &[u32]) {
         }
         Refusal::Triggers(n) => node(words, n),
         _ => {}
+    }
+}
+
+// What is wrong with a caller's words behind their header.
+pub fn of_said(q: Refusal, said: &[u32]) {
+    let mut words = [FILL; words::MOST_WORDS];
+    let got = writer::problem_in(said, &mut words);
+    if let Read::Problem(n) = got {
+        of_words(q, &words[..n]);
     }
 }
 

@@ -11,7 +11,7 @@ use lib.Seq.{getD-append-add, getD-drop}
 use lib.Dec.{eqb, ltb, leb}
 use borrow.Author.Tests.{eq-eqb, ne-eqb, eqb-true, eqb-false, ltb-true, ltb-false, leb-true, leb-false, not-true, not-false}
 use Rattle.basics.proofs.Sums.{sum-same}
-use Rattle.basics.proofs.Runs.{tab}
+use Rattle.basics.specs.Runs.{tab}
 use Rattle.rules.specs.declared.Refusal.{Refusal}
 use Rattle.rules.specs.declared.Refusal.the-variants.{Endless}
 use Rattle.rules.specs.declared.Fault.{Fault}

@@ -1,4 +1,4 @@
--- The rules of a problem, tested and stated: a test finds nothing exactly where its rule is kept, and the whole chain exactly where the problem is well-formed.
+-- The rules of a problem, tested and stated: a test finds nothing exactly where its rule is kept, and all of them exactly where the problem is well-formed.
 use Prim.Native.Nat.{ℕ, zero, suc, _+_, _*_, _^_, _≤_, _<_}
 use mathlib.Core.Path.{_≡_, refl}
 use mathlib.Core.Bool.{Bool, true, false, _&&_, not}
@@ -6,20 +6,20 @@ use mathlib.Core.List.{List}
 use mathlib.Core.Logic.{_↔_}
 use native.Mathlib.Decide.{decLt}
 use native.Mathlib.Omega.{arith}
-use lib.Dec.{leb, ltb, eqb}
+use lib.Dec.{T, leb, ltb, eqb, eqb→eq}
 use lib.ListN.{length}
 use lib.Pow.{pow-mono}
-use borrow.Author.Tests.{ltb-false, leb-true, leb-false, eqb-true, eqb-false, le-ltb, le-leb, lt-leb, eq-eqb, ne-eqb, not-true, not-false}
+use borrow.Author.Tests.{ltb-false, leb-true, leb-false, eqb-true, eqb-false, le-ltb, le-leb, lt-leb, eq-eqb, ne-eqb, not-false}
 use Rattle.basics.specs.Bits.{bit}
 use Rattle.basics.specs.Tests.{outside, some}
 use Rattle.basics.proofs.Bits.{bit-two}
-use Rattle.basics.proofs.Tests.{within, inside, or-false, and-true, either, some-at, some-on, some-off, some-none}
-use Rattle.rules.specs.Problem.{rows, cycle, refLen, refId, limit, columns, messages, start, width, identifier, sender, size, receivers, period, offset, deadline, headerWords, wordCount, earliest, nodes, triggers, Header, Column, Identity, Timing, WellFormed}
+use Rattle.basics.proofs.Tests.{left, right, within, inside, or-false, and-true, either, some-at, some-on, some-off, some-none}
+use Rattle.rules.specs.Problem.{rows, cycle, refLen, refId, limit, columns, messages, start, width, kind, identifier, sender, size, receivers, period, offset, deadline, wordCount, earliest, nodes, triggers, Header, Column, Identity, Timing, WellFormed}
 use Rattle.rules.specs.declared.Fault.the-variants.{Clear}
-use Rattle.rules.specs.declared.Refusal.the-variants.{Length, Header as BadHeader, Identity as BadIdentity}
-use Rattle.rules.specs.Refusal.{guard, firstFault}
-use Rattle.rules.specs.Rules.{isRowCount, headerFault, columnWrong, repeated, identityWrong, onGrid, timingWrong, overloaded, columnFault, messageFault, nodeFault, wordsFault, problemFault}
-use Rattle.rules.proofs.Faults.{clear-guard, clear-both, clear-test, clear-first, first-clear}
+use Rattle.rules.specs.declared.Refusal.the-variants.{Header as BadHeader, Identity as BadIdentity}
+use Rattle.rules.specs.Refusal.{isClear, guard, firstFault}
+use Rattle.rules.specs.Rules.{isRowCount, headerFault, columnWrong, repeated, identityWrong, onGrid, timingWrong, overloaded, columnFault, messageFault, nodeFault, wordsFault}
+use Rattle.rules.proofs.Faults.{clear-is, clear-guard, clear-both, clear-test, clear-first, first-clear}
 
 positive : {n : ℕ} → (n ≡ 0 → ⊥) → 1 ≤ n
 positive h = omega arith
@@ -111,12 +111,14 @@ module _ (p : List ℕ) where
       stated e =
           let d = or-false _ (eqb (suc c) (columns p) && ltb (cycle p) (start p c + width p c)) e in
           let o = or-false _ (ltb (start p c) (earliest p c)) (d .0) in
-          let z = or-false _ (eqb (width p c) 0) (o .0) in
+          let k = or-false _ (ltb 0 (kind p c)) (o .0) in
+          let z = or-false _ (eqb (width p c) 0) (k .0) in
           let w = or-false (ltb 65535 (start p c)) (ltb 65535 (width p c)) (z .0) in
           record {
             start-most = ltb-false _ _ (w .0);
             width-most = ltb-false _ _ (w .1);
             width-least = positive (eqb-false _ _ (z .1));
+            kind-most = ltb-false _ _ (k .1);
             ordered = ltb-false _ _ (o .1);
             last-ends = λ q. ltb-false _ _ (rw (eq-eqb (suc c) (columns p) q) at (d .1));
           }
@@ -131,6 +133,7 @@ module _ (p : List ℕ) where
             le-ltb 65535 (start p c) (h .start-most),
             le-ltb 65535 (width p c) (h .width-most),
             ne-eqb (width p c) 0 (λ q. omega (arith, h .width-least)),
+            le-ltb 0 (kind p c) (h .kind-most),
             le-ltb (start p c) (earliest p c) (h .ordered),
             end h (eqb (suc c) (columns p)) refl,
           )
@@ -241,14 +244,13 @@ module _ (p : List ℕ) where
       let d : firstFault nodes (nodeFault p) ≡ Clear = first-clear _ _ λ n l. rw (triggers-kept n .1 (f .triggers-most n l)) in
       rw (a, b, d)
 
-  -- the chain finds nothing exactly where the words are those of a well-formed problem
-  pub problem-kept : (problemFault p ≡ Clear) ↔ WellFormed p
-  unfolding problemFault
-  problem-kept = (
-    λ e.
-        let a = clear-both (guard (ltb (length p) headerWords) Length) _ e in
-        let b = clear-both (headerFault p) _ (a .1) in
-        let d = clear-both (guard (not (eqb (length p) (wordCount p))) Length) _ (b .1) in
-        words-formed (header-kept .0 (b .0)) (eqb-true _ _ (clear-test _ _ (d .0))) (d .1),
-    λ f. simp (le-ltb (length p) headerWords (omega (arith, f .words)), header-kept .1 (f .header), eq-eqb (length p) (wordCount p) (f .words), formed-words f),
-  )
+  -- ---- computed, as one test
+  unfoldable pub isFormed : Bool
+  isFormed = isClear (headerFault p) && (eqb (length p) (wordCount p) && isClear (wordsFault p))
+
+  pub is-formed : T isFormed → WellFormed p
+  unfolding isFormed
+  is-formed t =
+      let rest = right (isClear (headerFault p)) (eqb (length p) (wordCount p) && isClear (wordsFault p)) t in
+      words-formed (header-kept .0 (clear-is (headerFault p) (left (isClear (headerFault p)) _ t)))
+      (eqb→eq _ _ (left (eqb (length p) (wordCount p)) (isClear (wordsFault p)) rest)) (clear-is (wordsFault p) (right (eqb (length p) (wordCount p)) (isClear (wordsFault p)) rest))

@@ -1,6 +1,7 @@
 -- The four slips of document 01 beside the plans that they spoil, computed as one table.
 use Prim.Native.Nat.{ℕ}
 use mathlib.Core.Path.{_≡_, refl}
+use mathlib.Core.Bool.{Bool}
 use mathlib.Core.List.{List, [], _∷_}
 use Rattle.basics.specs.Bits.{bit}
 use Rattle.basics.specs.Sums.{sum}
@@ -12,8 +13,8 @@ use Rattle.rules.specs.Problem.{earliest, triggers, column, row, InRange
 use Rattle.rules.specs.Sends.{Acceptable}
 use Rattle.rules.specs.Refusal.{firstFault}
 use Rattle.rules.specs.Tests.{inRange, fits, wait, timely, common, meets, ownFault, meetingFault, fault, proposalFault}
-use Rattle.rules.specs.Rules.{headerFault, columnWrong, repeated, identityWrong, onGrid, timingWrong, overloaded, wordsFault, problemFault}
-use Rattle.rules.proofs.Formed.{problem-kept}
+use Rattle.rules.specs.Rules.{headerFault, columnWrong, repeated, identityWrong, onGrid, timingWrong, overloaded, wordsFault}
+use Rattle.rules.proofs.Formed.{isFormed, is-formed}
 use Rattle.basics.proofs.Tests.{every-at}
 use Rattle.rules.proofs.Faults.{bad-not-clear}
 use Rattle.rules.proofs.Meaning.{range-placed}
@@ -22,7 +23,7 @@ use Rattle.rules.proofs.Exact.{exact}
 -- T1, with the deadline of message 32 and the offset of message 48
 t1 : ℕ → ℕ → List ℕ
 t1 d o =
-    2 ∷ 400 ∷ 65 ∷ 1 ∷ 32 ∷ 3 ∷ 3 ∷ 65 ∷ 135 ∷ 200 ∷ 100 ∷ 300 ∷ 100
+    2 ∷ 400 ∷ 65 ∷ 1 ∷ 32 ∷ 3 ∷ 3 ∷ 65 ∷ 135 ∷ 0 ∷ 200 ∷ 100 ∷ 0 ∷ 300 ∷ 100 ∷ 0
     ∷ 16 ∷ 0 ∷ 8 ∷ 2 ∷ 400 ∷ 0 ∷ 400
     ∷ 32 ∷ 1 ∷ 1 ∷ 1 ∷ 800 ∷ 400 ∷ d
     ∷ 48 ∷ 1 ∷ 4 ∷ 1 ∷ 800 ∷ o ∷ 800 ∷ []
@@ -30,13 +31,13 @@ t1 d o =
 -- T1's grid, with two messages: of so many data bytes and such periods
 two : ℕ → ℕ → ℕ → ℕ → List ℕ
 two s t a b =
-    2 ∷ 400 ∷ 65 ∷ 1 ∷ 32 ∷ 3 ∷ 2 ∷ 65 ∷ 135 ∷ 200 ∷ 100 ∷ 300 ∷ 100
+    2 ∷ 400 ∷ 65 ∷ 1 ∷ 32 ∷ 3 ∷ 2 ∷ 65 ∷ 135 ∷ 0 ∷ 200 ∷ 100 ∷ 0 ∷ 300 ∷ 100 ∷ 0
     ∷ 16 ∷ 0 ∷ s ∷ 2 ∷ a ∷ 0 ∷ a
     ∷ 32 ∷ 0 ∷ t ∷ 2 ∷ b ∷ 0 ∷ b ∷ []
 
 -- one message, released late in its row, with the column at 200
 late : List ℕ
-late = 1 ∷ 400 ∷ 65 ∷ 1 ∷ 32 ∷ 1 ∷ 1 ∷ 200 ∷ 100 ∷ 16 ∷ 0 ∷ 1 ∷ 0 ∷ 400 ∷ 350 ∷ 100 ∷ []
+late = 1 ∷ 400 ∷ 65 ∷ 1 ∷ 32 ∷ 1 ∷ 1 ∷ 200 ∷ 100 ∷ 0 ∷ 16 ∷ 0 ∷ 1 ∷ 0 ∷ 400 ∷ 350 ∷ 100 ∷ []
 
 -- what a plan comes to; `unfolding seen` opens all that a table has to compute
 seen : List ℕ → List ℕ → Fault
@@ -63,14 +64,14 @@ unfolding seen
 table = refl
 
 -- so by the theorem the sends of the second slip are acceptable, and those of the fourth are not
-kept : List ℕ → Fault
-unfolding problemFault headerFault wordsFault firstFault columnWrong identityWrong repeated timingWrong onGrid overloaded triggers sum bit earliest every some t1 late
-kept p = problemFault p
+kept : List ℕ → Bool
+unfolding isFormed headerFault wordsFault firstFault columnWrong identityWrong repeated timingWrong onGrid overloaded triggers sum bit earliest every some t1 late
+kept p = isFormed p
 
 early-send-acceptable : Acceptable (t1 300 700) (0 ∷ 0 ∷ 1 ∷ 1 ∷ 1 ∷ 0 ∷ [])
 unfolding seen kept
 early-send-acceptable =
-    exact (t1 300 700) (0 ∷ 0 ∷ 1 ∷ 1 ∷ 1 ∷ 0 ∷ []) (problem-kept (t1 300 700) .0 refl) .0 refl .1
+    exact (t1 300 700) (0 ∷ 0 ∷ 1 ∷ 1 ∷ 1 ∷ 0 ∷ []) (is-formed (t1 300 700) tt) .0 refl .1
 
 late-release-not : ¬ Acceptable late (0 ∷ 0 ∷ [])
 unfolding seen kept
@@ -80,4 +81,4 @@ late-release-not a =
       words = refl;
       placed = λ j l. range-placed late j (column w j) (row w j) (every-at 1 (λ j. inRange late j (column w j) (row w j)) tt j l);
     } in
-    bad-not-clear (exact late w (problem-kept late .0 refl) .1 (in-range, a)) refl
+    bad-not-clear (exact late w (is-formed late tt) .1 (in-range, a)) refl

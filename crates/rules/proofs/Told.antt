@@ -9,7 +9,7 @@ use lib.Dec.{eqb}
 use lib.ListN.{length, drop}
 use Rattle.rules.specs.declared.Paper.{Paper}
 use Rattle.rules.specs.declared.Refusal.{Refusal}
-use Rattle.rules.specs.declared.Refusal.the-variants.{Length, Mark, Version, Header, Column, Identity, Timing, Triggers, ProposalLength, Range, Width, Late, Meeting, NoPlan, TooMany, Room, EventWords, Event, Endless, Log}
+use Rattle.rules.specs.declared.Refusal.the-variants.{Length, Mark, Version, Header, Column, Identity, Timing, Triggers, ProposalLength, Range, Width, Late, Meeting, NoPlan, TooMany, Room, EventWords, Event, Endless, Unheld, Log}
 use Rattle.rules.specs.declared.Fault.{Fault}
 use Rattle.rules.specs.declared.Fault.the-variants.{Clear, Bad}
 use Rattle.rules.specs.Paper.{done, refused, paperOf, Answers}
@@ -38,7 +38,8 @@ faultAt n j i =
     cond (eqb n 17) (Bad EventWords) (
     cond (eqb n 18) (Bad (Event j)) (
     cond (eqb n 19) (Bad (Endless j)) (
-    Bad Log))))))))))))))))))))
+    cond (eqb n 20) (Bad (Unheld j)) (
+    Bad Log)))))))))))))))))))))
 
 faultIn : Paper → Fault
 faultIn p = faultAt (p .number) (p .place) (p .second)
@@ -65,6 +66,7 @@ back (Bad Room) = refl
 back (Bad EventWords) = refl
 back (Bad (Event j)) = refl
 back (Bad (Endless j)) = refl
+back (Bad (Unheld i)) = refl
 back (Bad Log) = refl
 
 -- the law: number, place and second place settle a fault

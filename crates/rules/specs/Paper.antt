@@ -6,7 +6,7 @@ use lib.Dec.{ltb}
 use lib.ListN.{length, drop}
 use Rattle.rules.specs.declared.Paper.{Paper}
 use Rattle.rules.specs.declared.Refusal.{Refusal}
-use Rattle.rules.specs.declared.Refusal.the-variants.{Length, Mark, Version, Header, Column, Identity, Timing, Triggers, ProposalLength, Range, Width, Late, Meeting, NoPlan, TooMany, Room, EventWords, Event, Endless, Log}
+use Rattle.rules.specs.declared.Refusal.the-variants.{Length, Mark, Version, Header, Column, Identity, Timing, Triggers, ProposalLength, Range, Width, Late, Meeting, NoPlan, TooMany, Room, EventWords, Event, Endless, Unheld, Log}
 use Rattle.rules.specs.declared.Fault.{Fault}
 use Rattle.rules.specs.declared.Fault.the-variants.{Clear, Bad}
 use Rattle.rules.specs.Refusal.{guard}
@@ -42,6 +42,7 @@ refused Room = at 16 0
 refused EventWords = at 17 0
 refused (Event j) = at 18 j
 refused (Endless j) = at 19 j
+refused (Unheld i) = at 20 i
 refused Log = at 24 0
 
 -- ---- what a call answers for a fault

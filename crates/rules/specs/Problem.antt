@@ -30,12 +30,12 @@ columns p = getD p 5 0
 abbrev pub messages : List ℕ → ℕ
 messages p = getD p 6 0
 
--- where the words stand: seven of the header, then two for column c, then, behind k columns, seven for message j
+-- where the words stand: seven of the header, then three for column c, then, behind k columns, seven for message j
 abbrev pub headerWords : ℕ
 headerWords = 7
 
 abbrev pub columnAt : ℕ → ℕ
-columnAt c = headerWords + 2 * c
+columnAt c = headerWords + 3 * c
 
 abbrev pub messageAt : ℕ → ℕ → ℕ
 messageAt k j = columnAt k + 7 * j
@@ -46,6 +46,10 @@ start p c = getD p (columnAt c) 0
 
 abbrev pub width : List ℕ → ℕ → ℕ
 width p c = getD p (columnAt c + 1) 0
+
+-- 0 is an exclusive window
+abbrev pub kind : List ℕ → ℕ → ℕ
+kind p c = getD p (columnAt c + 2) 0
 
 -- word k of message j, and the seven by name
 abbrev pub field : List ℕ → ℕ → ℕ → ℕ
@@ -147,6 +151,8 @@ pub record Column (p : List ℕ) (c : ℕ) : Type 0 where
   pub start-most : start p c ≤ 65535
   pub width-most : width p c ≤ 65535
   pub width-least : 1 ≤ width p c
+  -- as yet every window is exclusive
+  pub kind-most : kind p c ≤ 0
   pub ordered : earliest p c ≤ start p c
   pub last-ends : suc c ≡ columns p → start p c + width p c ≤ cycle p
 

@@ -3,14 +3,13 @@ use Prim.Native.Nat.{ℕ, suc, _+_, _*_, _^_}
 use mathlib.Core.Bool.{Bool, _&&_, _||_, not}
 use mathlib.Core.List.{List}
 use lib.Dec.{leb, ltb, eqb}
-use lib.ListN.{length}
 use Rattle.basics.specs.Bits.{bit}
 use Rattle.basics.specs.Tests.{outside, some}
 use Rattle.rules.specs.declared.Fault.{Fault}
-use Rattle.rules.specs.declared.Refusal.the-variants.{Length, Header, Column, Identity, Timing, Triggers}
+use Rattle.rules.specs.declared.Refusal.the-variants.{Header, Column, Identity, Timing, Triggers}
 use Rattle.rules.specs.Refusal.{guard, _⊕_, firstFault}
 use Rattle.rules.specs.Offsets.{rowsByte, cycleByte, refLenByte, refIdByte, limitByte, columnsByte, messagesByte}
-use Rattle.rules.specs.Problem.{rows, cycle, refLen, refId, limit, columns, messages, start, width, identifier, sender, size, receivers, period, offset, deadline, headerWords, wordCount, earliest, nodes, triggers}
+use Rattle.rules.specs.Problem.{rows, cycle, refLen, refId, limit, columns, messages, start, width, kind, identifier, sender, size, receivers, period, offset, deadline, earliest, nodes, triggers}
 
 abbrev pub isRowCount : ℕ → Bool
 isRowCount r = eqb r 1 || eqb r 2 || eqb r 4 || eqb r 8 || eqb r 16 || eqb r 32 || eqb r 64
@@ -33,6 +32,7 @@ columnWrong p c =
     ltb 65535 (start p c)
     || ltb 65535 (width p c)
     || eqb (width p c) 0
+    || ltb 0 (kind p c)
     || ltb (start p c) (earliest p c)
     || eqb (suc c) (columns p) && ltb (cycle p) (start p c + width p c)
 
@@ -80,11 +80,3 @@ nodeFault p n = guard (overloaded p n) (Triggers n)
 -- with the words behind the header: the columns, then message by message, then the nodes
 unfoldable pub wordsFault : List ℕ → Fault
 wordsFault p = firstFault (columns p) (columnFault p) ⊕ firstFault (messages p) (messageFault p) ⊕ firstFault nodes (nodeFault p)
-
--- with all the words, as they are given to a writer
-unfoldable pub problemFault : List ℕ → Fault
-problemFault p =
-    guard (ltb (length p) headerWords) Length
-    ⊕ headerFault p
-    ⊕ guard (not (eqb (length p) (wordCount p))) Length
-    ⊕ wordsFault p

@@ -10,7 +10,7 @@ ghost use Rattle.rules.specs.Parts.{Member, Start, Width, Period, Frame,
 // How many words a header, a column and a message have.
 pub const HEADER_WORDS: usize = 7;
 
-pub const COLUMN_WORDS: usize = 2;
+pub const COLUMN_WORDS: usize = 3;
 
 pub const MESSAGE_WORDS: usize = 7;
 
@@ -33,6 +33,8 @@ pub const MESSAGES: usize = 6;
 pub const START: usize = 0;
 
 pub const WIDTH: usize = 1;
+
+pub const KIND: usize = 2;
 
 pub const IDENTIFIER: usize = 0;
 

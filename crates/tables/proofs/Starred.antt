@@ -12,17 +12,19 @@ use Rattle.basics.specs.Bits.{bit}
 use Rattle.basics.specs.Sums.{sum, largest}
 use Rattle.basics.specs.Tests.{some as someOf}
 use Rattle.basics.proofs.Tests.{left, right}
-use Rattle.rules.specs.Problem.{earliest, triggers, frame, proposalWords, WellFormed}
+use Rattle.rules.specs.Problem.{earliest, triggers, frame, proposalWords}
 use Rattle.rules.specs.Sends.{sendAt}
 use Rattle.rules.specs.Refusal.{isClear, firstFault}
 use Rattle.rules.specs.declared.Fault.the-variants.{Clear}
 use Rattle.rules.specs.declared.Paper.{Paper}
 use Rattle.rules.specs.Paper.{between, paperOf}
-use Rattle.rules.specs.Rules.{headerFault, columnWrong, repeated, identityWrong, onGrid, timingWrong, overloaded, wordsFault, problemFault}
+use Rattle.rules.specs.Rules.{headerFault, columnWrong, repeated, identityWrong, onGrid, timingWrong, overloaded, wordsFault}
 use Rattle.rules.specs.Tests.{inRange, fits, wait, timely, common, meets, ownFault, meetingFault, fault, proposalFault}
 use Rattle.rules.proofs.Exact.{exact}
 use Rattle.rules.proofs.Faults.{clear-is}
-use Rattle.rules.proofs.Formed.{problem-kept}
+use Rattle.rules.proofs.Formed.{isFormed, is-formed}
+use Rattle.problem.specs.declared.layout.Layout.the-variants.{One}
+use Rattle.problem.specs.Wrong.{heldFault}
 use Rattle.planner.proofs.Seek.{run, run-least, run-none}
 use Rattle.cells.specs.Cells.{startsAt, occupied}
 use Rattle.losses.specs.Losses.{reference, used, inWindow, empty, inColumn, covered, uncovered, gaps, FiguresAre}
@@ -30,8 +32,8 @@ use Rattle.losses.proofs.Five.{figures-sum}
 use Rattle.response.specs.Promise.{zeros}
 use Rattle.response.specs.Events.{count, repeated as repeatedEvent, eventWrong, eventsFault}
 use Rattle.response.proofs.Computed.{climb, span, worse, seek as seekWorst, worst, time, times, spansFault, computed}
-use Rattle.tables.specs.Cases.{Case, lasts, plans, plans-none, loses, accepts, refuses, responds, figures, Says}
-use Rattle.tables.specs.Starred.{t1, two, none as noMessage, events, starred}
+use Rattle.tables.specs.Cases.{Case, lasts, plans, plans-none, loses, accepts, refuses, unheld, responds, figures, Says}
+use Rattle.tables.specs.Starred.{t1With, t1, two, none as noMessage, events, starred}
 
 -- ---- tests
 unfoldable same : List ℕ → List ℕ → Bool
@@ -46,13 +48,6 @@ same-is [] [] t = refl
 same-is [] (y ∷ m) t = absurd t
 same-is (x ∷ l) [] t = absurd t
 same-is (x ∷ l) (y ∷ m) t = ap₂ _∷_ (eqb→eq x y (left (eqb x y) (same l m) t)) (same-is l m (right (eqb x y) (same l m) t))
-
--- no rule of a problem is broken
-abbrev wellFormed : List ℕ → Bool
-wellFormed p = isClear (problemFault p)
-
-formed : (p : List ℕ) → T (wellFormed p) → WellFormed p
-formed p t = problem-kept p .0 (clear-is (problemFault p) t)
 
 -- a number and its places
 abbrev places : Paper → List ℕ
@@ -85,12 +80,13 @@ none-is none t = refl
 -- ---- the test of a case, and the law
 unfoldable holds : Case → Bool
 holds (lasts s c) = eqb (frame s) c
-holds (plans p w) = wellFormed p && (eqb (length w) (proposalWords p) && is (run p) w)
-holds (plans-none p) = wellFormed p && isNone (run p)
+holds (plans p w) = isFormed p && (eqb (length w) (proposalWords p) && is (run p) w)
+holds (plans-none p) = isFormed p && isNone (run p)
 holds (loses p w a b c d e) =
-    wellFormed p && (isClear (proposalFault p w) && (eqb (reference p) a && (eqb (used p w) b && (eqb (inWindow p w) c && (eqb (empty p w) d && eqb (gaps p) e)))))
-holds (accepts p w) = wellFormed p && isClear (proposalFault p w)
-holds (refuses p w n j i) = wellFormed p && isAt (paperOf (proposalFault p w)) n j i
+    isFormed p && (isClear (proposalFault p w) && (eqb (reference p) a && (eqb (used p w) b && (eqb (inWindow p w) c && (eqb (empty p w) d && eqb (gaps p) e)))))
+holds (accepts p w) = isFormed p && isClear (proposalFault p w)
+holds (refuses p w n j i) = isFormed p && isAt (paperOf (proposalFault p w)) n j i
+holds (unheld p n j) = isAt (paperOf (heldFault One p)) n j 0
 holds (responds e t m) =
     isClear (eventsFault e) && (isClear (spansFault e) && (same (times e ++ drop (count e) (replicate (count e) 0)) t && eqb (zeros (times e) (count e)) m))
 
@@ -99,15 +95,15 @@ unfolding holds
 holds-says (lasts s c) t = eqb→eq _ _ t
 holds-says (plans p w) t =
     let words : Bool = eqb (length w) (proposalWords p) in
-    let wf = formed p (left (wellFormed p) (words && is (run p) w) t) in
-    let t₁ = right (wellFormed p) (words && is (run p) w) t in
+    let wf = is-formed p (left (isFormed p) (words && is (run p) w) t) in
+    let t₁ = right (isFormed p) (words && is (run p) w) t in
     (wf, run-least p w wf (is-some (run p) w (right words (is (run p) w) t₁)) (eqb→eq _ _ (left words (is (run p) w) t₁)))
 holds-says (plans-none p) t =
-    let wf = formed p (left (wellFormed p) (isNone (run p)) t) in
-    (wf, run-none p wf (none-is (run p) (right (wellFormed p) (isNone (run p)) t)))
+    let wf = is-formed p (left (isFormed p) (isNone (run p)) t) in
+    (wf, run-none p wf (none-is (run p) (right (isFormed p) (isNone (run p)) t)))
 holds-says (loses p w a b c d e) t =
-    let wf = formed p (left (wellFormed p) _ t) in
-    let t₁ = right (wellFormed p) _ t in
+    let wf = is-formed p (left (isFormed p) _ t) in
+    let t₁ = right (isFormed p) _ t in
     let t₂ = right (isClear (proposalFault p w)) _ t₁ in
     let t₃ = right (eqb (reference p) a) _ t₂ in
     let t₄ = right (eqb (used p w) b) _ t₃ in
@@ -121,12 +117,13 @@ holds-says (loses p w a b c d e) t =
     let are : FiguresAre Clear p w (figures a b c d e) = record { reference-is = sym ea; used-is = sym eb; in-window-is = sym ec; empty-is = sym ed; gaps-is = sym ee } in
     (wf, are, figures-sum (record { formed = wf; faultless = fine }) are)
 holds-says (accepts p w) t =
-    let wf = formed p (left (wellFormed p) (isClear (proposalFault p w)) t) in
-    let a = exact p w wf .0 (clear-is (proposalFault p w) (right (wellFormed p) (isClear (proposalFault p w)) t)) in
+    let wf = is-formed p (left (isFormed p) (isClear (proposalFault p w)) t) in
+    let a = exact p w wf .0 (clear-is (proposalFault p w) (right (isFormed p) (isClear (proposalFault p w)) t)) in
     (wf, a .0, a .1)
 holds-says (refuses p w n j i) t =
     let x : Paper = paperOf (proposalFault p w) in
-    (formed p (left (wellFormed p) (isAt x n j i) t), is-at x n j i (right (wellFormed p) (isAt x n j i) t))
+    (is-formed p (left (isFormed p) (isAt x n j i) t), is-at x n j i (right (isFormed p) (isAt x n j i) t))
+holds-says (unheld p n j) t = is-at (paperOf (heldFault One p)) n j 0 t
 holds-says (responds e t m) h =
     let d : List ℕ = replicate (count e) 0 in
     let x : List ℕ = times e ++ drop (count e) d in
@@ -153,7 +150,7 @@ each (y ∷ l) t x m =
     (List·Memᴰ·cases-cons m)
 
 table-holds : T (all-hold starred)
-unfolding all-hold starred holds t1 two noMessage events same problemFault headerFault wordsFault columnWrong earliest identityWrong repeated timingWrong onGrid overloaded triggers someOf sum bit
+unfolding all-hold starred holds heldFault t1With t1 two noMessage events same isFormed headerFault wordsFault columnWrong earliest identityWrong repeated timingWrong onGrid overloaded triggers someOf sum bit
     proposalFault firstFault fault ownFault inRange fits wait timely meetingFault meets common used sendAt startsAt occupied inWindow empty inColumn covered uncovered
     eventsFault eventWrong repeatedEvent largest spansFault climb span worse seekWorst worst time times
 table-holds = tt

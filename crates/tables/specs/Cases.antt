@@ -5,9 +5,11 @@ use mathlib.Core.List.{List}
 use lib.ListN.{replicate}
 use Rattle.rules.specs.Problem.{matrix, frame, InRange, WellFormed}
 use Rattle.rules.specs.Sends.{Acceptable}
-use Rattle.rules.specs.Paper.{between, paperOf}
+use Rattle.rules.specs.Paper.{at, between, paperOf}
 use Rattle.rules.specs.Tests.{proposalFault}
 use Rattle.rules.specs.declared.Fault.the-variants.{Clear}
+use Rattle.problem.specs.declared.layout.Layout.the-variants.{One}
+use Rattle.problem.specs.Wrong.{heldFault}
 use Rattle.losses.specs.declared.BusTime.{BusTime}
 use Rattle.losses.specs.Losses.{FiguresAre}
 use Rattle.planner.specs.Least.{Plan, Least}
@@ -26,6 +28,8 @@ pub data Case : Type 0 where
   -- the proposal w for p is acceptable; it is refused with a number, a place and a second place
   accepts : (p w : List ℕ) → Case
   refuses : (p w : List ℕ) (n j i : ℕ) → Case
+  -- version 1 cannot hold the problem p: that is refused with a number and a place
+  unheld : (p : List ℕ) (n j : ℕ) → Case
   -- for the events e the words t are written, and m are missed
   responds : (e t : List ℕ) (m : ℕ) → Case
 
@@ -40,4 +44,5 @@ Says (plans-none p) = WellFormed p × ((w : List ℕ) → ¬ Plan p w)
 Says (loses p w a b c d e) = WellFormed p × FiguresAre Clear p w (figures a b c d e) × (a + b + c + d + e ≡ matrix p)
 Says (accepts p w) = WellFormed p × InRange p w × Acceptable p w
 Says (refuses p w n j i) = WellFormed p × (paperOf (proposalFault p w) ≡ between n j i)
+Says (unheld p n j) = paperOf (heldFault One p) ≡ at n j
 Says (responds e t m) = Responding e (replicate (count e) 0) t (Done m)

@@ -53,7 +53,7 @@ pub fn front(words: &[u32], n: usize) -> &[u32] {
 }
 
 // The file of a problem in the front of a buffer, none where it is not well-formed; answers its length.
-fn file_of(problem: &[u32], file: &mut [u8]) -> usize
+pub fn file_of(problem: &[u32], file: &mut [u8]) -> usize
     ensures { λ r. ⌜ Counts r (now (file .exit)) ⌝ }
 {
     let written = writer::write(problem, file);
@@ -67,14 +67,14 @@ fn file_of(problem: &[u32], file: &mut [u8]) -> usize
 }
 
 // Starts a case's line.
-fn start(title: &[u8], call: &[u8]) {
+pub fn start(title: &[u8], call: &[u8]) {
     paper::text(b"  ");
     paper::text(title);
     paper::text(call);
 }
 
 // Ends a case's line.
-fn end(is_right: bool) {
+pub fn end(is_right: bool) {
     if is_right {
         paper::text(b": ok\n");
     } else {
@@ -83,7 +83,7 @@ fn end(is_right: bool) {
 }
 
 // Shows a refusal where the document wants this number, place and second place; 0 is no refusal.
-fn end_refused(q: Refusal, wanted: [u32; 3]) {
+pub fn end_refused(q: Refusal, wanted: [u32; 3]) {
     let told = rules::paper_of(q);
     let is = [told.number, told.place, told.second];
     paper::text(b"refused ");
@@ -280,7 +280,7 @@ pub fn round_trip(title: &[u8], problem: &[u32]) {
 }
 
 // Bytes of a file changed: pairs of an offset and a byte.
-fn damage(pairs: &[u32], file: &mut [u8]) {
+pub fn damage(pairs: &[u32], file: &mut [u8]) {
     let mut i: usize = 0;
     while i + 1 < pairs.len() {
         build::set_byte(file, word(pairs, i), word(pairs, i + 1));

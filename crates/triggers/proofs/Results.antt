@@ -13,7 +13,7 @@ use Rattle.reader.specs.declared.answer.Read.{Read}
 use Rattle.reader.specs.declared.answer.Read.the-variants.{Refused as Unread}
 use Rattle.reader.specs.Answer.{refusal}
 use Rattle.proposal.specs.Accept.{Admitted, Tested}
-use Rattle.proposal.proofs.Accepting.{refused-is}
+use Rattle.reader.proofs.Decoding.{refused-is}
 use Rattle.triggers.specs.declared.Listed.{Listed}
 use Rattle.triggers.specs.declared.Listed.the-variants.{Lists as Done, Refused}
 use Rattle.triggers.specs.Answer.{paper, countOf}

@@ -11,6 +11,7 @@ use response::Responded;
 use rules::Paper;
 use rules::Refusal;
 use triggers::Listed;
+use versions::Moved;
 use writer::Written;
 
 // A call's number in a record; 4 is none any more. A further call takes the next number, its name in `name` and its line in `run`; `is_call` has the last.
@@ -29,6 +30,10 @@ const RESPONSES: u8 = 7;
 
 const HOLD: u8 = 8;
 
+const UP: u8 = 9;
+
+const BACK: u8 = 10;
+
 // Each byte that is lent, before a call.
 pub const BYTE_PATTERN: u8 = 0xA5;
 
@@ -45,7 +50,7 @@ const FIGURE: usize = 3;
 
 // Whether a record's call is one of these.
 pub fn is_call(call: u8) -> bool {
-    ((READ <= call) & (call <= JUDGE)) | ((LISTS <= call) & (call <= HOLD))
+    ((READ <= call) & (call <= JUDGE)) | ((LISTS <= call) & (call <= BACK))
 }
 
 // Whether a call takes a log and writes nothing.
@@ -60,7 +65,7 @@ pub fn takes_words(call: u8) -> bool {
 
 // Whether a call writes bytes where the others write words.
 pub fn writes_bytes(call: u8) -> bool {
-    call == WRITE
+    (call == WRITE) | (call == UP) | (call == BACK)
 }
 
 // How many bytes or words so many bytes of output are.
@@ -124,10 +129,9 @@ fn read(file: &[u8], words: &mut [u32]) -> [u64; NUMBERS] {
     }
 }
 
-// Call 2: words into a file. What is written goes into the output one byte to a word, and so does the pattern behind it.
-fn write(words: &[u32], file: &mut [u8], output: &mut [u32]) -> [u64; NUMBERS] {
+// Call 2: words into a file.
+fn write(words: &[u32], file: &mut [u8]) -> [u64; NUMBERS] {
     let got = writer::write(words, file);
-    crate::record::spread(file, output);
     match got {
         Written::File(n) => done(n),
         Written::Refused(q) => refused(q),
@@ -190,6 +194,14 @@ pub fn hold(file: &[u8], proposal: &[u32], log: &[u32], span: u32) -> [u64; NUMB
     }
 }
 
+// What came of a move.
+fn moved(got: Moved) -> [u64; NUMBERS] {
+    match got {
+        Moved::File(n) => done(n),
+        Moved::Refused(q) => refused(q),
+    }
+}
+
 // The list that is due, which no record has as its call.
 pub fn due(file: &[u8], proposal: &[u32], span: u32, list: &mut [u32]) -> [u64; NUMBERS] {
     let got = log::due(file, proposal, span, list);
@@ -204,6 +216,28 @@ pub fn is_clean(answer: [u64; NUMBERS]) -> bool {
     (answer[0] == 0) & (answer[FIGURE] == 0)
 }
 
+// A call that writes bytes: 2, or 9 and 10, a file moved up and back.
+fn write_bytes(call: u8, file: &[u8], words: &[u32], lent: &mut [u8]) -> [u64; NUMBERS] {
+    match call {
+        WRITE => write(words, lent),
+        UP => moved(versions::up(file, lent)),
+        _ => moved(versions::back(file, lent)),
+    }
+}
+
+// Runs such a call. What is written goes into the output one byte to a word, and so does the pattern behind it.
+fn run_bytes(
+    call: u8,
+    file: &[u8],
+    words: &[u32],
+    lent: &mut [u8],
+    output: &mut [u32],
+) -> [u64; NUMBERS] {
+    let answer = write_bytes(call, file, words, lent);
+    crate::record::spread(lent, output);
+    answer
+}
+
 // Runs a call by its number. Input A is there both as bytes and as words, and so is the buffer that is lent; each call takes the ones it is made for.
 pub fn run(
     call: u8,
@@ -213,9 +247,11 @@ pub fn run(
     lent: &mut [u8],
     output: &mut [u32],
 ) -> [u64; NUMBERS] {
+    if writes_bytes(call) {
+        return run_bytes(call, file, words, lent, output);
+    }
     match call {
         READ => read(file, output),
-        WRITE => write(words, lent, output),
         JUDGE => judge(file, proposal),
         LISTS => list(file, proposal, output),
         PLAN => plan(file, output),
@@ -233,6 +269,8 @@ pub fn name(call: u8) {
         PLAN => paper::text(b"plan"),
         RESPONSES => paper::text(b"responses"),
         HOLD => paper::text(b"hold"),
+        UP => paper::text(b"up"),
+        BACK => paper::text(b"back"),
         _ => {
             paper::text(b"call ");
             paper::number(basics::byte(call));

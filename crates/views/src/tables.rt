@@ -25,9 +25,10 @@ fn item(name: &[u8], n: usize) {
 }
 
 // The header's numbers, each by its name.
-pub fn header(p: &[u32])
+pub fn header(p: &[u32], version: u32)
     requires { ⌜ WellFormed (now p) ⌝ }
 {
+    item(b"file version", basics::wide(version));
     item(b"basic cycles", words::rows_of(p));
     item(b"basic cycle length", words::cycle_of(p));
     item(b"reference window", words::ref_len_of(p));
@@ -82,29 +83,42 @@ pub fn messages(p: &[u32])
 
 // ---- words that can be read back
 
-// A line for each so many words.
-fn lines(w: &[u32], size: usize)
-    requires { ⌜ (1 ≤ size) × (size ≤ 7) ⌝ }
+// A line for each so many words, of which so many are shown.
+fn lines(w: &[u32], size: usize, shown: usize)
+    requires { ⌜ (1 ≤ size) × (size ≤ 7) × (shown ≤ size) ⌝ }
 {
     let mut at: usize = 0;
     while at + size <= w.len() {
-        paper::words(&w[at..at + size]);
+        paper::words(&w[at..at + shown]);
         paper::end_line();
         at += size;
     }
 }
 
-// A problem as a word list.
-pub fn problem_words(p: &[u32])
-    requires { ⌜ WellFormed (now p) ⌝ }
+// What a column's words are, of which there are so many.
+fn column_heading(said: usize) {
+    if said < words::COLUMN_WORDS {
+        paper::line(b"# columns: start, width");
+    } else {
+        paper::line(b"# columns: start, width, kind");
+    }
+}
+
+// A problem as a word list, with so many words for a column.
+pub fn problem_words(p: &[u32], said: usize)
+    requires { ⌜ WellFormed (now p) × (said ≤ 3) ⌝ }
 {
     let middle = words::column_at(words::columns_of(p));
     paper::line(b"# rows, cycle, reference window and identifier, triggers, columns, messages");
-    lines(&p[..words::HEADER_WORDS], words::HEADER_WORDS);
-    paper::line(b"# columns: start, width");
-    lines(&p[words::HEADER_WORDS..middle], words::COLUMN_WORDS);
+    lines(
+        &p[..words::HEADER_WORDS],
+        words::HEADER_WORDS,
+        words::HEADER_WORDS,
+    );
+    column_heading(said);
+    lines(&p[words::HEADER_WORDS..middle], words::COLUMN_WORDS, said);
     paper::line(b"# messages: identifier, sender, bytes, receivers, period, offset, deadline");
-    lines(&p[middle..], words::MESSAGE_WORDS);
+    lines(&p[middle..], words::MESSAGE_WORDS, words::MESSAGE_WORDS);
 }
 
 // The column and the base row of one message, and its name as a comment.

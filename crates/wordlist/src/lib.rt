@@ -137,3 +137,18 @@ pub fn column_of(text: &[u8]) -> usize {
     }
     column
 }
+
+// Whether two texts are the same.
+pub fn is_same(s: &[u8], t: &[u8]) -> bool {
+    if s.len() != t.len() {
+        return false;
+    }
+    let mut i: usize = 0;
+    while i < s.len() && i < t.len() {
+        if s[i] != t[i] {
+            return false;
+        }
+        i += 1;
+    }
+    true
+}

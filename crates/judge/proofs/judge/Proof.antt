@@ -1,6 +1,7 @@
 -- File and proposal are tested once; what is refused is handed on, and else the figures are those of the words that were read.
 use mathlib.Core.Path.{sym}
-use Rattle.proposal.proofs.Accepting.{refused-is, admitted-length}
+use Rattle.reader.proofs.Decoding.{refused-is}
+use Rattle.proposal.proofs.Accepting.{admitted-length}
 use Rattle.judge.proofs.Promise.{judging-refused, judging-accepted}
 use borrow.Author.Needs.{needs}
 use Rattle.judge.proofs.judge.Statement.{statement}

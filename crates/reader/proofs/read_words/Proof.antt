@@ -18,11 +18,12 @@ read-header-requires c κs = let start = c .before .before .before in (omega ari
 returns : tie.Need-returns
 returns c =
     let at-column = c .before .before .before .before .before in
-    let at-read-columns = at-column .before .before .before in
+    let at-read-columns = at-column .before .before .before .before in
     let at-read-header = at-read-columns .before .before .before .before .before in
     let start = at-read-header .before .before .before .before in
-    words-parts (start .args .file .now) (start .args .words .now) _ _ _ _ _ _ (start .pre .0 .columns-are) (start .pre .0 .messages-are)
-    (at-column .column-at .ensures) (at-read-header .read-header .ensures) (at-read-columns .read-columns .ensures) (c .before .before .read-messages .ensures)
+    words-parts (start .args .layout) (start .args .file .now) (start .args .words .now) _ _ _ _ _ _ _ (start .pre .0 .columns-are) (start .pre .0 .messages-are)
+    (omega (arith, at-column .before .bytes-for .ensures)) (at-column .column-at .ensures)
+    (at-read-header .read-header .ensures) (at-read-columns .read-columns .ensures) (c .before .before .read-messages .ensures)
 
 pub read-words-spec : {M : Type 1} → statement M
 read-words-spec =
@@ -39,8 +40,7 @@ read-words-spec =
     (λ c. search needs)
     (λ c κs. search needs)
     (λ c κs. search needs)
-    (λ c. search needs)
-    (λ c. search needs)
+    (λ c κs. search needs)
     (λ c. search needs)
     (λ c. search needs)
     (λ c. search needs)

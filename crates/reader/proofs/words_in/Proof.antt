@@ -14,8 +14,8 @@ use Rattle.reader.proofs.words_in.Tie as tie
 clear : (c : tie.After-enum-told) → headFault (c .before .before .before .before .before .args .file .now) ≡ Clear
 clear c = sym (c .before .before .head-fault .ensures) ∙ c .enum-told .given .1
 
-sized : (c : tie.After-messages-in) → Sized (c .before .before .before .before .before .before .before .args .file .now) (c .before .columns-in .result) (c .messages-in .result)
-sized c = head-sized _ _ _ (head-right _ (clear (c .before .before))) (c .before .columns-in .ensures .0) (c .messages-in .ensures .0)
+sized : (c : tie.After-layout-in) → Sized (c .layout-in .result) (c .before .before .before .before .before .before .before .before .args .file .now) (c .before .before .columns-in .result) (c .before .messages-in .result)
+sized c = head-sized _ _ _ (head-right _ (clear (c .before .before .before))) (c .layout-in .ensures) (c .before .before .columns-in .ensures .0) (c .before .messages-in .ensures .0)
 
 returns : tie.Need-returns
 returns c = answered-bad _ refl (sym (c .before .before .before .head-fault .ensures) ∙ c .before .of-head .given .1)
@@ -26,6 +26,9 @@ columns-in-requires c κs = head-right _ (clear c) .long
 messages-in-requires : tie.Need-messages-in-requires
 messages-in-requires c κs = head-right _ (clear (c .before)) .long
 
+layout-in-requires : tie.Need-layout-in-requires
+layout-in-requires c κs = head-right _ (clear (c .before .before)) .long
+
 read-words-requires : tie.Need-read-words-requires
 read-words-requires c κs = (sized (c .before), omega arith)
 
@@ -35,10 +38,10 @@ message-at-requires c κs = let s = sized (c .before .before .before .before) in
 returns-2 : tie.Need-returns-2
 returns-2 c =
     let at-read-words = c .before .before .before in
-    let at-counts = at-read-words .before .before in
-    let start = at-counts .before .before .before .before .before .before .before in
+    let at-layout = at-read-words .before .before in
+    let start = at-layout .before .before .before .before .before .before .before .before in
     answered-words _ refl
-    (laid _ _ _ _ _ _ (clear (at-counts .before .before)) (sized at-counts) (omega (arith, start .pre, at-read-words .read-words .kept .1 .1 .1 .0)) (at-read-words .read-words .ensures) (c .message-at .ensures))
+    (laid _ _ _ _ _ _ (clear (at-layout .before .before .before)) (at-layout .layout-in .ensures) (sized at-layout) (omega (arith, start .pre, at-read-words .read-words .kept .1 .1 .1 .1 .0)) (at-read-words .read-words .ensures) (c .message-at .ensures))
 
 pub words-in-spec : {M : Type 1} → statement M
 words-in-spec =
@@ -50,6 +53,7 @@ words-in-spec =
     (λ c. search needs)
     columns-in-requires
     messages-in-requires
+    layout-in-requires
     read-words-requires
     message-at-requires
     (λ c. search needs)

@@ -1,4 +1,4 @@
--- Five stores, one behind the other.
+-- Three stores, one behind the other.
 use native.Mathlib.Omega.{arith}
 use lib.ListN.{length-set}
 use borrow.Author.Needs.{needs}
@@ -11,9 +11,6 @@ slice-write-out-2 c = simp length-set (omega arith)
 slice-write-out-3 : tie.Need-slice-write-out-3
 slice-write-out-3 c = simp length-set (omega arith)
 
-slice-write-out-4 : tie.Need-slice-write-out-4
-slice-write-out-4 c = simp length-set (omega arith)
-
 pub put-mark-spec : {M : Type 1} → statement M
 put-mark-spec =
     tie.close
@@ -24,7 +21,5 @@ put-mark-spec =
     slice-write-out-2
     (λ c. search needs)
     slice-write-out-3
-    slice-write-out-4
-    (λ c. search needs)
     (λ c. search needs)
     (λ c. search needs))

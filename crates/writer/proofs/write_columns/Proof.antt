@@ -1,36 +1,64 @@
 -- Invariant: the columns before c are written, in front of what the buffer held. Each step puts one more piece behind them.
-use Prim.Native.Nat.{_-_, _≤_}
-use mathlib.Core.Path.{refl}
+use Prim.Native.Nat.{_+_, _*_, _-_, _≤_}
+use mathlib.Core.Path.{sym, _∙_}
 use native.Mathlib.Omega.{arith}
+use lib.ListN.{length}
 use Rattle.basics.specs.Runs.{Turned}
 use Rattle.basics.proofs.Runs.{turned-none, turned-more, turned-parts, turned-all}
-use Rattle.problem.specs.File.{columnBytes}
+use Rattle.problem.specs.Layout.{columnBytes}
+use Rattle.problem.proofs.Layouts.{step, column-length}
 use borrow.Author.Needs.{needs}
 use Rattle.writer.proofs.write_columns.Statement.{statement}
 use Rattle.writer.proofs.write_columns.Tie as tie
 
 abbrev Inv-loop : tie.InvT-loop
-Inv-loop part k out₀ c₀ out c = (c ≤ k) × Turned columnBytes 2 4 part out₀ c out
+Inv-loop layout part k out₀ size c₀ out c = (c ≤ k) × Turned (columnBytes layout) 3 size part out₀ c out
 
 abbrev μ-loop : tie.MeasureT-loop
-μ-loop part k out₀ c₀ out c = k - c
+μ-loop layout part k out₀ size c₀ out c = k - c
+
+-- all records are inside the buffer, and so is the one that is written next
+inside : (c : tie.After-column-size Inv-loop μ-loop) → c .column-size .result * c .before .before .before .args .k ≤ length (c .before .before .before .args .out .now)
+inside c = rw (c .column-size .ensures .0) (c .before .before .before .pre .1)
+
+next : (c : tie.In-loop Inv-loop μ-loop) → let sized = c .before .before in let size = sized .column-size .result in let i = c .before .loop .c in
+    (size * i + size ≤ 1280) × (size * i + size ≤ length (sized .before .before .before .args .out .now))
+next c =
+    let sized = c .before .before in
+    let args = sized .before .before .before .args in
+    step (sized .column-size .result) (c .before .loop .c) (args .k) (length (args .out .now)) (omega (arith, sized .column-size .ensures .1)) (omega arith) (omega arith) (inside sized)
 
 loop-holds : tie.Need-loop-holds Inv-loop μ-loop
 loop-holds c = (search needs, turned-none)
 
+mul-to : tie.Need-mul-to Inv-loop μ-loop
+mul-to c = omega (arith, next c .0)
+
+add-write-column-2 : tie.Need-add-write-column-2 Inv-loop μ-loop
+add-write-column-2 c = omega (arith, next (c .before) .0)
+
+part-write-column-end-2 : tie.Need-part-write-column-end-2 Inv-loop μ-loop
+part-write-column-end-2 c = omega (arith, c .before .before .loop .inv .1 .long, next (c .before) .1)
+
 write-column-requires : tie.Need-write-column-requires Inv-loop μ-loop
 write-column-requires c κs =
     let at-loop = c .before .before .before in
-    turned-parts (at-loop .loop .c) (at-loop .before .before .before .args .k) (at-loop .loop .inv .1) (omega arith) (omega arith) (omega arith)
+    let sized = at-loop .before in
+    let args = sized .before .before .before .args in
+    let parts = turned-parts (at-loop .loop .c) (args .k) (at-loop .loop .inv .1) (omega arith) (omega arith) (inside sized) in
+    (parts .0, parts .1 ∙ sized .column-size .ensures .0)
 
 loop-again : tie.Need-loop-again Inv-loop μ-loop
 loop-again c =
     let call = c .before .before .write-column in
-    let at = c .before .before .before .before .before .before .loop in
-    (search needs, turned-more (λ r. refl) (at .c) (at .inv .1) (call .ensures) (call .kept .1 .0))
+    let at-loop = c .before .before .before .before .before .before in
+    let at = at-loop .loop in
+    let sized = at-loop .before in
+    let layout = sized .before .before .before .args .layout in
+    (search needs, turned-more (λ r. column-length layout r ∙ sym (sized .column-size .ensures .0)) (at .c) (at .inv .1) (call .ensures) (call .kept .1 .1 .0))
 
 returns : tie.Need-returns Inv-loop μ-loop
-returns c = turned-all (c .before .loop .inv .1) (omega arith)
+returns c = rw (← (c .before .before .column-size .ensures .0)) (turned-all (c .before .loop .inv .1) (omega arith))
 
 pub write-columns-spec : {M : Type 1} → statement M
 write-columns-spec =
@@ -38,18 +66,19 @@ write-columns-spec =
     (tie.spec
     Inv-loop
     μ-loop
+    (λ c κs. search needs)
     loop-holds
     (λ c. search needs)
+    mul-to
     (λ c. search needs)
     (λ c. search needs)
     (λ c. search needs)
     (λ c. search needs)
     (λ c. search needs)
+    add-write-column-2
     (λ c. search needs)
     (λ c. search needs)
-    (λ c. search needs)
-    (λ c. search needs)
-    (λ c. search needs)
+    part-write-column-end-2
     write-column-requires
     (λ c. search needs)
     (λ c. search needs)

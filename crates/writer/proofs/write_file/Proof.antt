@@ -21,7 +21,7 @@ returns c =
     let at-write-columns = at-places .before .before .before .before in
     let at-write-header = at-write-columns .before .before .before .before .before in
     let start = at-write-header .before .before .before .before in
-    bytes-parts (start .args .words .now) (start .args .out .now) _ _ _ _ _ _ _ (start .pre .0 .columns-are) (start .pre .0 .messages-are)
+    bytes-parts (start .args .layout) (start .args .words .now) (start .args .out .now) _ _ _ _ _ _ _ (start .pre .0 .columns-are) (start .pre .0 .messages-are)
     (at-places .before .column-at .ensures) (omega (arith, at-places .bytes-for .ensures))
     (at-write-header .write-header .ensures) (at-write-columns .write-columns .ensures) (c .before .before .write-messages .ensures)
 

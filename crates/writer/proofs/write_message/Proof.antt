@@ -1,33 +1,41 @@
--- Each call sets the bytes behind those before; together they fill the record.
-use mathlib.Core.Path.{_≡_}
-use Prim.Native.Nat.{ℕ}
+-- The identifier, and behind it the rest.
+use Prim.Native.Nat.{ℕ, _+_}
+use mathlib.Core.Path.{_≡_, sym, ap, _∙_}
 use native.Mathlib.Omega.{arith}
-use lib.ListN.{length, getD}
-use Rattle.writer.proofs.Writing.{one, two, four, begun, then-set, all-set}
+use mathlib.Core.List.{_++_}
+use lib.ListN.{length, getD, drop, length-drop}
+use Rattle.basics.proofs.Runs.{tail-part, put-rest}
+use Rattle.problem.specs.Layout.{identifierBytes, restBytes}
+use Rattle.problem.proofs.Layouts.{identifier-length}
+use Rattle.writer.proofs.Writing.{begun, then-set}
 use borrow.Author.Needs.{needs}
 use Rattle.writer.proofs.write_message.Statement.{statement}
 use Rattle.writer.proofs.write_message.Tie as tie
 
+write-rest-requires : tie.Need-write-rest-requires
+write-rest-requires c κs =
+    let sized = c .before in
+    let put = sized .before .before .before in
+    let start = put .before .before .before .before .before in
+    let n = sized .identifier-size .result in
+    let out = put .put-identifier .last .1 .0 in
+    (start .pre .0, ap length (tail-part n out) ∙ length-drop n out ∙ omega (arith, sized .identifier-size .ensures .0, start .pre .1, put .put-identifier .kept .1 .0))
+
 returns : tie.Need-returns
 returns c =
-    let at-put-four2 = c .before .before .before .before .before .before .before in
-    let at-put-four = at-put-four2 .before .before .before .before .before in
-    let at-put-two2 = at-put-four .before .before .before .before .before in
-    let at-put-one2 = at-put-two2 .before .before .before .before .before in
-    let at-put-one = at-put-one2 .before .before .before .before .before in
-    let at-put-two = at-put-one .before .before .before .before .before in
-    let start = at-put-two .before .before .before .before .before in
-    let o = start .args .out .now in
-    let h : length o ≡ 18 = start .pre .1 in
-    let w : ℕ → ℕ = λ i. getD (start .args .words .now) i 0 in
-    let s0 = then-set (two (w 0)) _ (begun o) (at-put-two .put-two .ensures) (omega arith) in
-    let s1 = then-set (one (w 1)) _ s0 (at-put-one .put-one .ensures) (omega arith) in
-    let s2 = then-set (one (w 2)) _ s1 (at-put-one2 .put-one2 .ensures) (omega arith) in
-    let s3 = then-set (two (w 3)) _ s2 (at-put-two2 .put-two2 .ensures) (omega arith) in
-    let s4 = then-set (four (w 4)) _ s3 (at-put-four .put-four .ensures) (omega arith) in
-    let s5 = then-set (four (w 5)) _ s4 (at-put-four2 .put-four2 .ensures) (omega arith) in
-    let s6 = then-set (four (w 6)) _ s5 (c .before .before .put-four3 .ensures) (omega arith) in
-    all-set s6 h
+    let written = c .before .before in
+    let sized = written .before .before in
+    let put = sized .before .before .before in
+    let start = put .before .before .before .before .before in
+    let L = start .args .layout in
+    let out = start .args .out .now in
+    let id = identifierBytes L (getD (start .args .words .now) 0 0) in
+    let long = identifier-length L (getD (start .args .words .now) 0 0) in
+    let s = then-set id _ (begun out) (put .put-identifier .ensures) (omega (arith, long)) in
+    let n = sized .identifier-size .result in
+    let e : length id ≡ n = long ∙ sym (sized .identifier-size .ensures .0) in
+    let z : 0 + length id ≡ n = omega (arith, e) in
+    put-rest id (restBytes (start .args .words .now)) out _ _ n (s .is ∙ ap (λ (k : ℕ). id ++ drop k out) z) e (written .write-rest .ensures)
 
 pub write-message-spec : {M : Type 1} → statement M
 write-message-spec =
@@ -35,17 +43,10 @@ write-message-spec =
     (tie.spec
     (λ c. search needs)
     (λ c κs. search needs)
-    (λ c. search needs)
     (λ c κs. search needs)
     (λ c. search needs)
-    (λ c κs. search needs)
     (λ c. search needs)
-    (λ c κs. search needs)
     (λ c. search needs)
-    (λ c κs. search needs)
-    (λ c. search needs)
-    (λ c κs. search needs)
-    (λ c. search needs)
-    (λ c κs. search needs)
+    write-rest-requires
     (λ c. search needs)
     returns)

@@ -10,7 +10,7 @@ use Rattle.views.proofs.tables.problem_words.Tie as tie
 slice-aggregate-lines : tie.Need-slice-aggregate-lines
 slice-aggregate-lines c =
     let start = c .before .before .before .before .before .before in
-    sym (length-take-le headerWords (start .args .p .now) (omega (arith, start .pre .words)))
+    sym (length-take-le headerWords (start .args .p .now) (omega (arith, start .pre .0 .words)))
 
 pub problem-words-spec : {M : Type 1} → statement M
 problem-words-spec =
@@ -22,7 +22,6 @@ problem-words-spec =
     (λ c κs. search needs)
     slice-aggregate-lines
     (λ c κs. search needs)
-    (λ c. search needs)
     (λ c κs. search needs)
     (λ c. search needs)
     (λ c. search needs)

@@ -2,8 +2,8 @@
 use Prim.Native.Nat.{_≤_, _-_}
 use lib.ListN.{length}
 use borrow.Author.Needs.{needs}
-use Rattle.files.proofs.input.is_same.Statement.{statement}
-use Rattle.files.proofs.input.is_same.Tie as tie
+use Rattle.wordlist.proofs.is_same.Statement.{statement}
+use Rattle.wordlist.proofs.is_same.Tie as tie
 
 abbrev Inv-loop : tie.InvT-loop
 Inv-loop s t i₀ i = i ≤ length s
