@@ -57,7 +57,7 @@ fn begin(view: View) {
 }
 
 // Shows the problem of a file of that version.
-fn problem(layout: Layout, p: &[u32])
+fn show_problem(layout: Layout, p: &[u32])
     requires { ⌜ WellFormed (now p) ⌝ }
 {
     tables::header(p, version_of(layout));
@@ -72,13 +72,13 @@ fn present(view: View, layout: Layout, p: &[u32], w: &[u32])
     match view {
         View::Verdict => {}
         View::Problem => {
-            problem(layout, p);
+            show_problem(layout, p);
             matrix::show(p, w, false);
         }
         View::Words => tables::problem_words(p, column_words(layout)),
         View::Proposal => tables::proposal_words(p, w),
         View::Matrix => {
-            problem(layout, p);
+            show_problem(layout, p);
             matrix::show(p, w, true);
             paper::end_line();
         }

@@ -194,20 +194,23 @@ fn of_words(q: Refusal, words: &[u32]) {
     }
 }
 
+// What is wrong with the words that were read into the front of a buffer.
+fn of_front(q: Refusal, got: Read, words: &[u32]) {
+    if let Read::Problem(n) = got {
+        of_words(q, &words[..smaller(n, words.len())]);
+    }
+}
+
 // What is wrong with a caller's words behind their header.
 pub fn of_said(q: Refusal, said: &[u32]) {
     let mut words = [FILL; words::MOST_WORDS];
     let got = writer::problem_in(said, &mut words);
-    if let Read::Problem(n) = got {
-        of_words(q, &words[..n]);
-    }
+    of_front(q, got, &words);
 }
 
 // What is wrong with a file behind its header.
 pub fn of_file(q: Refusal, file: &[u8]) {
     let mut words = [FILL; words::MOST_WORDS];
     let got = reader::words_in(file, &mut words);
-    if let Read::Problem(n) = got {
-        of_words(q, &words[..n]);
-    }
+    of_front(q, got, &words);
 }
