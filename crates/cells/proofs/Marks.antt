@@ -18,56 +18,6 @@ use Rattle.cells.specs.Cells.{startsAt, cells, cell}
 use Rattle.cells.specs.Table.{numberIn, starting, Table, Marked}
 use Rattle.cells.proofs.Starts.{at, starts-here, here-starts, none-here, one-holder, no-term}
 
--- t′ is t with x in the cells of column c in rows r, r + step, .. below i
-pub record Marking (t : List ℕ) (c r step rows x i : ℕ) (t′ : List ℕ) : Type 0 where
-  pub long : length t′ ≡ length t
-  pub turn : ℕ
-  pub now-at : i ≡ r + turn * step
-  pub before : (n : ℕ) → n < turn → r + n * step < rows
-  pub here : (n : ℕ) → n < turn → numberIn t′ (r + n * step) c ≡ x
-  pub elsewhere : (k : ℕ) → ((n : ℕ) → n < turn → ¬ (k ≡ cell (r + n * step) c)) → getD t′ k 0 ≡ getD t k 0
-
-pub marking-none : (t : List ℕ) (c r step rows x : ℕ) → Marking t c r step rows x r t
-marking-none t c r step rows x = record {
-  long = refl;
-  turn = 0;
-  now-at = omega arith;
-  before = λ n l. absurd (omega arith);
-  here = λ n l. absurd (omega arith);
-  elsewhere = λ k h. refl;
-}
-
-module _ {t t′ : List ℕ} {c r step rows x i : ℕ} (m : Marking t c r step rows x i t′) where
-  pub marking-more : {k next : ℕ} → 1 ≤ step → i < rows → k ≡ cell i c → k < length t → next ≡ i + step → Marking t c r step rows x next (set t′ k x)
-  marking-more {k} hs hi ek hk en =
-      let fits : k < length t′ = omega (arith, m .long) in
-      record {
-        long = length-set t′ _ _ ∙ m .long;
-        turn = suc (m .turn);
-        now-at = omega (arith, m .now-at);
-        before = λ n l. elim (eq-or-lt-of-le (le-of-suc-le-suc l)) [
-          | inl e ↦ omega (arith, m .now-at, ap (_* step) e)
-          | inr f ↦ m .before n f
-        ];
-        here = λ n l. elim (eq-or-lt-of-le (le-of-suc-le-suc l)) [
-          | inl e ↦ (let q : cell (r + n * step) c ≡ k = omega (arith, m .now-at, ap (_* step) e) in rw q (getD-set-same t′ k x 0 fits))
-          | inr f ↦ getD-set-other t′ k (cell (r + n * step) c) x 0 (λ e. omega (arith, m .now-at, mul-le-mul-right {m = suc n} {n = m .turn} step f)) ∙ m .here n f
-        ];
-        elsewhere = λ y h.
-            getD-set-other t′ k y x 0 (λ e. h (m .turn) (omega arith) (omega (arith, m .now-at)))
-            ∙ m .elsewhere y (λ n l. h n (omega arith));
-      }
-
-  pub marking-all : rows ≤ i → Marked t c r step rows x t′
-  marking-all h = record {
-    long = m .long;
-    here = λ n l. elim (decLt n (m .turn)) [
-      | yes k ↦ m .here n k
-      | no k ↦ absurd (omega (arith, m .now-at, mul-le-mul-right {m = m .turn} {n = n} step (omega arith)))
-    ];
-    elsewhere = λ k g. m .elsewhere k (λ n l. g n (m .before n l));
-  }
-
 -- ---- message by message
 module _ {p w : List ℕ} (a : Accepted p w) where
   pub table-more : {j : ℕ} {t t′ : List ℕ} → j < messages p → Table p w j t → Marked t (column w j) (row w j) (repeat p j) (rows p) (suc j) t′ → Table p w (j + 1) t′

@@ -6,11 +6,12 @@ use mathlib.Core.List.{List}
 use native.Mathlib.Omega.{arith}
 use Rattle.basics.specs.Tests.{some}
 use Rattle.basics.proofs.Tests.{not-both, some-at, some-none}
+use Rattle.rules.specs.Cells.{Here}
 use Rattle.rules.specs.Problem.{rows, columns, messages}
 use Rattle.proposal.specs.Accepted.{Accepted}
 use Rattle.cells.specs.Cells.{startsAt}
 use Rattle.cells.specs.Table.{numberIn, starting, Table}
-use Rattle.cells.proofs.Starts.{Here, starts-here, here-starts, one-term, no-term}
+use Rattle.cells.proofs.Starts.{starts-here, here-starts, one-term, no-term}
 
 -- no message holds the cell of row i and column c, which then has number 0, or message j does, and its number is j + 1
 pub data Holder (p w : List ℕ) (i c : ℕ) : ℕ → Type 0 where

@@ -10,23 +10,19 @@ use borrow.Author.Tests.{eq-eqb, eqb-true}
 use Rattle.basics.specs.Sums.{sum, only}
 use Rattle.basics.proofs.Sums.{only-never, sum-zero, sum-single}
 use Rattle.basics.proofs.Tests.{never, some-at, some-on}
+use Rattle.rules.specs.Cells.{Here}
 use Rattle.rules.specs.Problem.{rows, cycle, columns, messages, start, repeat, column, row}
 use Rattle.rules.specs.Sends.{sendAt}
-use Rattle.rules.specs.Tests.{common, meets}
+use Rattle.rules.specs.Tests.{meets}
 use Rattle.rules.proofs.Columns.{in-cycle, one-column}
-use Rattle.rules.proofs.Digits.{same-digit, rows-agree}
-use Rattle.rules.proofs.Exact.{common-divides}
+use Rattle.rules.proofs.Bounds.{member}
+use Rattle.rules.proofs.Cells.{cell-meets}
+use Rattle.rules.proofs.Digits.{same-digit}
 use Rattle.rules.proofs.Meaning.{is-meets}
 use Rattle.rules.proofs.Slots.{Slot, slot, send-is}
 use Rattle.proposal.specs.Accepted.{Accepted}
 use Rattle.proposal.proofs.Sound.{sound, placed}
 use Rattle.cells.specs.Cells.{startsAt}
-
--- message j starts in the cell of row i and column c: it stands in that column, and one of its turns falls on that row
-pub record Here (p w : List ℕ) (j i c : ℕ) : Type 0 where
-  pub same-column : column w j ≡ c
-  pub turn : ℕ
-  pub same-row : row w j + turn * repeat p j ≡ i
 
 module _ {p w : List ℕ} (a : Accepted p w) where
   pub at : (j : ℕ) → j < messages p → Slot p w j
@@ -65,12 +61,7 @@ module _ {p w : List ℕ} (a : Accepted p w) where
 
   -- ---- at most one message starts in a cell
   meeting : (j k i c : ℕ) → j < messages p → k < messages p → Here p w j i c → Here p w k i c → T (meets p w j k)
-  meeting j k i c lj lk h g =
-      let d = common-divides p j k (at j lj .power) (at k lk .power) (at j lj .repeat-is) (at k lk .repeat-is) in
-      is-meets p w j k record {
-        one-column = h .same-column ∙ sym (g .same-column);
-        rows-agree = rows-agree (common p j k) (repeat p j) (repeat p k) (row w j) (row w k) (h .turn) (g .turn) (d .0) (d .1) (h .same-row ∙ sym (g .same-row));
-      }
+  meeting j k i c lj lk h g = is-meets p w j k (cell-meets (member (a .formed) lj) (member (a .formed) lk) h g)
 
   pub one-holder : (j k i c : ℕ) → j < messages p → k < messages p → Here p w j i c → Here p w k i c → j ≡ k
   one-holder j k i c lj lk h g =

@@ -1,8 +1,9 @@
 -- The table of cells: for each the number, counted from 1, of the message that starts there, and 0 where none does.
-use Prim.Native.Nat.{ℕ, suc, _+_, _*_, _<_}
+use Prim.Native.Nat.{ℕ, suc, _<_}
 use mathlib.Core.Path.{_≡_}
 use mathlib.Core.List.{List}
 use lib.ListN.{length, getD}
+use Rattle.basics.specs.Strides.{Strode}
 use Rattle.basics.specs.Sums.{sum, only}
 use Rattle.rules.specs.Problem.{rows, columns}
 use Rattle.cells.specs.Cells.{startsAt, cells, cell}
@@ -20,8 +21,10 @@ pub record Table (p w : List ℕ) (n : ℕ) (t : List ℕ) : Type 0 where
   pub long : length t ≡ cells
   pub each : (i c : ℕ) → i < rows p → c < columns p → numberIn t i c ≡ starting p w n i c
 
--- t with x in column c of each row r + n · step below `rows`, and nowhere else
-pub record Marked (t : List ℕ) (c r step rows x : ℕ) (t′ : List ℕ) : Type 0 where
-  pub long : length t′ ≡ length t
-  pub here : (n : ℕ) → r + n * step < rows → numberIn t′ (r + n * step) c ≡ x
-  pub elsewhere : (k : ℕ) → ((n : ℕ) → r + n * step < rows → ¬ (k ≡ cell (r + n * step) c)) → getD t′ k 0 ≡ getD t k 0
+-- whatever a word was, it is x then
+abbrev pub to : ℕ → ℕ → ℕ → Type 0
+to x old new = new ≡ x
+
+-- t′ is t with x in column c of each row r + k · step below `rows`, and nowhere else
+abbrev pub Marked : List ℕ → ℕ → ℕ → ℕ → ℕ → ℕ → List ℕ → Type 0
+Marked t c r step rows x t′ = Strode (to x) (λ (i : ℕ). cell i c) r step rows t t′

@@ -4,6 +4,7 @@ use mathlib.Core.Path.{_≡_, refl, ap}
 use mathlib.Core.List.{List}
 use native.Mathlib.Nat.{mod-add-div', lt-of-mul-lt-mul-right, min-eq-left, div-eq-of-eq-mul-left}
 use native.Mathlib.Omega.{arith}
+use Rattle.rules.specs.Cells.{Here}
 use Rattle.rules.specs.Problem.{rows, messages, repeat, column, row}
 use Rattle.rules.specs.Parts.{Member}
 use Rattle.rules.specs.Sends.{Source}
@@ -11,7 +12,6 @@ use Rattle.rules.proofs.Bounds.{member, repeat-is, repeat-least}
 use Rattle.rules.proofs.Digits.{Multiple, min-divides}
 use Rattle.proposal.specs.Accepted.{Accepted}
 use Rattle.proposal.proofs.Sound.{placed}
-use Rattle.cells.proofs.Starts.{Here}
 use Rattle.log.specs.Span.{Occurrence}
 
 -- how often a message repeats divides the rows

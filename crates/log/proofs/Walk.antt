@@ -8,6 +8,7 @@ use native.Mathlib.Omega.{arith}
 use Rattle.basics.specs.Runs.{run}
 use Rattle.basics.proofs.Rising.{Climbs, climbs-none, climbs-one, climbs-wide, climbs-append, Steps, climbs-run}
 use Rattle.basics.proofs.Runs.{run-same, in-run, of-run}
+use Rattle.rules.specs.Cells.{Here}
 use Rattle.rules.specs.Problem.{rows, cycle, refLen, refId, columns, messages, matrix, start, earliest, repeat, column, row}
 use Rattle.rules.specs.Sends.{Source, reference, message, OnBus, begins, sendAt}
 use Rattle.rules.proofs.Bounds.{rows-least}
@@ -15,7 +16,7 @@ use Rattle.rules.proofs.Columns.{last-end}
 use Rattle.rules.proofs.Slots.{send-is}
 use Rattle.proposal.specs.Accepted.{Accepted}
 use Rattle.cells.specs.Table.{numberIn, Table}
-use Rattle.cells.proofs.Starts.{Here, at, one-holder}
+use Rattle.cells.proofs.Starts.{at, one-holder}
 use Rattle.cells.proofs.Owners.{Holder, free, by, holder}
 use Rattle.log.specs.Span.{Occurrence, startOf, DueList, pairs, IsDue}
 use Rattle.log.specs.Rows.{cellWords, rowWords}

@@ -13,9 +13,10 @@ use Rattle.basics.proofs.Tests.{not-both}
 use Rattle.rules.specs.Problem.{messages, repeat, column, row}
 use Rattle.rules.specs.Tests.{Stand}
 use Rattle.rules.proofs.Bounds.{member, repeat-most}
+use Rattle.rules.proofs.Meaning.{stands}
 use Rattle.places.specs.Places.{tableAt, Few, Beside, Copied, FirstRow, Within, Shut, Narrowed}
 use Rattle.lookahead.specs.Probe.{Cautious}
-use Rattle.places.proofs.Meets.{stands, low-column, clash-meets, not-met}
+use Rattle.places.proofs.Meets.{low-column, clash-meets, not-met}
 
 -- ---- a message without a place
 pub shut-none : {p a : List ℕ} {l m n r : ℕ} → m < messages p → Has l m → FirstRow a m n r → repeat p m ≤ r → Shut p a l

@@ -1,17 +1,17 @@
 -- Messages with a cell in common meet, so that what has no fault has no two such messages.
-use Prim.Native.Nat.{ℕ, _%_, _<_}
-use mathlib.Core.Path.{_≡_, sym, ap, subst, _∙_}
+use Prim.Native.Nat.{ℕ, _/_, _%_, _<_}
+use mathlib.Core.Path.{_≡_, refl, sym, ap, subst, _∙_}
 use mathlib.Core.List.{List}
 use mathlib.Core.Logic.{⊎-elim}
-use native.Mathlib.Nat.{min-comm}
+use native.Mathlib.Nat.{min-comm, mod-add-div'}
 use native.Mathlib.Omega.{arith}
 use Rattle.basics.proofs.Tests.{below-or}
 use Rattle.rules.specs.declared.Fault.the-variants.{Clear}
 use Rattle.rules.specs.Problem.{mostColumns, messages, repeat, column, row, Placed}
 use Rattle.rules.specs.Tests.{common, ownFault, fault, Stand}
 use Rattle.rules.specs.Parts.{Member}
-use Rattle.rules.proofs.Bounds.{member, repeat-is}
-use Rattle.rules.proofs.Digits.{min-divides, base-row}
+use Rattle.rules.proofs.Bounds.{member}
+use Rattle.rules.proofs.Cells.{cell-meets}
 use Rattle.rules.proofs.Meaning.{own-alone, alone-own, Meets, is-meets, fault-sound}
 use Rattle.places.specs.Places.{Few, Clash}
 
@@ -22,23 +22,18 @@ own-placed p j c r e = own-alone p j c r e .placed
 pub fault-own : (p w : List ℕ) (j : ℕ) → fault p w j ≡ Clear → ownFault p j (column w j) (row w j) ≡ Clear
 fault-own p w j e = alone-own p j (column w j) (row w j) (fault-sound p w j e .alone)
 
--- where a message of what has no fault stands, and that its column is a digit of a word
-pub stands : {p w : List ℕ} {k : ℕ} → Stand p k w → (j : ℕ) → j < k → Placed p j (column w j) (row w j)
-stands {p} {w} S j l = own-placed p j _ _ (fault-own p w j (S .each j l))
-
+-- the column at which it is placed is a digit of a word
 pub low-column : {p : List ℕ} {j c r : ℕ} → Few p → Placed p j c r → c < mostColumns
 low-column F P = let below = P .column-below in let most = F .formed .header .columns-most in omega arith
 
 -- ---- two messages
--- two messages of one column and with a row in common meet
+-- two messages of one column and with a row in common have a cell in common
 share : {p : List ℕ} {j k : ℕ} → Member p j → Member p k → (w : List ℕ) (i : ℕ) → column w j ≡ column w k → i % repeat p j ≡ row w j
     → i % repeat p k ≡ row w k → Meets p w j k
-unfolding common
 share {p} {j} {k} mj mk w i e ej ek =
-    let d = min-divides (mj .timing .power) (mk .timing .power) in
-    let a = base-row (common p j k) (repeat p j) i (row w j) (rw (repeat-is mj, repeat-is mk) (d .0)) ej in
-    let b = base-row (common p j k) (repeat p k) i (row w k) (rw (repeat-is mj, repeat-is mk) (d .1)) ek in
-    record { one-column = e; rows-agree = a ∙ sym b }
+    cell-meets mj mk {i = i}
+    record { same-column = e; turn = i / repeat p j; same-row = omega (arith, mod-add-div' i (repeat p j)) }
+    record { same-column = refl; turn = i / repeat p k; same-row = omega (arith, mod-add-div' i (repeat p k)) }
 
 -- places that clash are those of messages that meet
 module _ {p w : List ℕ} {m c r j d i : ℕ} (ec : column w m ≡ c) (er : row w m ≡ r) (ed : column w j ≡ d) (ei : row w j ≡ i) where

@@ -14,9 +14,9 @@ use Rattle.rules.specs.declared.Fault.the-variants.{Clear}
 use Rattle.rules.specs.Problem.{columns, messages, repeat, Gives, column, row}
 use Rattle.rules.specs.Tests.{ownFault, meetingFault, fault, Stand}
 use Rattle.rules.proofs.Faults.{clear-both}
-use Rattle.rules.proofs.Meaning.{meets-is, is-meets, clear-unmet, unmet-clear}
+use Rattle.rules.proofs.Meaning.{meets-is, is-meets, clear-unmet, unmet-clear, stands}
 use Rattle.rules.proofs.Prefix.{same-fault}
-use Rattle.places.proofs.Meets.{fault-own, stands, clash-meets, meets-clash}
+use Rattle.places.proofs.Meets.{fault-own, clash-meets, meets-clash}
 use Rattle.planner.specs.Order.{Agree, Before}
 use Rattle.planner.specs.Search.{put, LeftIn, Best, Nowhere}
 use Rattle.planner.proofs.Order.{places, agree-refl, agree-sym, agree-trans, agree-less, put-keeps, put-column, put-row, put-agree}

@@ -9,9 +9,10 @@ use native.Mathlib.Omega.{arith}
 use Rattle.basics.specs.Bits.{Joined}
 use Rattle.basics.proofs.Bits.{has-none}
 use Rattle.rules.specs.Problem.{messages, Gives, column, row}
+use Rattle.rules.proofs.Meaning.{stands}
 use Rattle.places.specs.Places.{Few, Allows, Clash, Spared, Beside}
 use Rattle.lookahead.specs.Probe.{Cautious}
-use Rattle.places.proofs.Meets.{own-placed, fault-own, stands, low-column, clash-meets, not-met}
+use Rattle.places.proofs.Meets.{own-placed, fault-own, low-column, clash-meets, not-met}
 use Rattle.planner.specs.Search.{put, LeftIn, Leaves, From, Nowhere}
 use Rattle.planner.proofs.Order.{put-keeps, put-column, put-row}
 

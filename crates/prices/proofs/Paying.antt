@@ -15,9 +15,10 @@ use Rattle.basics.proofs.Tests.{and-true, not-both}
 use Rattle.rules.specs.Problem.{mostColumns, rows, messages, repeat, column, row}
 use Rattle.rules.specs.Tests.{Stand}
 use Rattle.rules.proofs.Bounds.{member, repeat-least}
+use Rattle.rules.proofs.Meaning.{stands}
 use Rattle.places.specs.Places.{tableAt, Few, Within, Shut, Narrowed}
 use Rattle.prices.specs.Prices.{price, cost, among, worthIn, worth, Joint, sumAt, Sums, Owed, PaidIn, Paid}
-use Rattle.places.proofs.Meets.{stands, low-column, not-shared}
+use Rattle.places.proofs.Meets.{low-column, not-shared}
 use Rattle.places.proofs.Tables.{Made, made-skip}
 
 -- ---- what messages without a fault pay

@@ -12,26 +12,33 @@ ghost use Rattle.rules.specs.Refusal.{firstFault};
 ghost use Rattle.rules.specs.Tests.{fault as faultOf, proposalFault};
 ghost use Rattle.proposal.specs.Accept.{Tested};
 
-// The first message with a fault, and at it the lowest number; of a meeting also the lowest earlier message.
+// The first message with a fault, and at it the lowest number; of a meeting also the lowest earlier message, which is looked up only where a cell is found taken.
 fn first_fault(p: &[u32], w: &[u32], messages: usize) -> Fault
     requires { ⌜ WellFormed (now p) × (messages ≡ messageCount (now p)) × (length (now w) ≡ proposalWords (now p)) ⌝ }
     ensures { λ f. ⌜ f ≡ firstFault messages (faultOf (now (p .entry)) (now (w .entry))) ⌝ }
 {
+    let rows = words::rows_of(p);
+    let mut taken = [0u32; words::MOST_ROWS];
     let mut j: usize = 0;
     let fault = 'faults: loop {
         if messages <= j {
             break 'faults Fault::Clear;
         }
-        let own = placing::own_fault(p, j, words::column_of(w, j), words::row_of(w, j));
-        if let Fault::Bad(r) = own {
-            break 'faults Fault::Bad(r);
+        let c = words::column_of(w, j);
+        let r = words::row_of(w, j);
+        let step = words::repeat_of(p, j);
+        let own = placing::own_fault(p, j, c, r);
+        if let Fault::Bad(q) = own {
+            break 'faults Fault::Bad(q);
         }
-        let mut i: usize = 0;
-        while i < j {
-            if placing::do_meet(p, w, i, j) {
-                break 'faults Fault::Bad(Refusal::Meeting(j as u32, i as u32));
+        if row_words::occupy(&mut taken, rows, step, c, r) {
+            let mut i: usize = 0;
+            loop {
+                if placing::do_meet(p, w, i, j) {
+                    break 'faults Fault::Bad(Refusal::Meeting(j as u32, i as u32));
+                }
+                i += 1;
             }
-            i += 1;
         }
         j += 1;
     };

@@ -1,68 +1,115 @@
--- Outer loop: the messages before j have no fault. Inner loop: besides, message j has none of its own, and the messages before i do not meet it.
--- So whatever the label yields is the fault of the first message that has one, and where j reaches the end there is none.
-use Prim.Native.Nat.{_≤_, _-_}
+-- Outer loop: the messages before j have no fault, and the row words say which cells they have taken. Inner loop, where message j found one of its cells taken: the messages before i
+-- do not meet it, and an earlier one does, so that the loop ends at the lowest. So whatever the label yields is the fault of the first message that has one, and where j reaches the
+-- end there is none.
+use Prim.Native.Nat.{_≤_, _<_, _-_}
+use mathlib.Core.Path.{_≡_, sym, _∙_}
 use native.Mathlib.Omega.{arith}
 use borrow.Author.Needs.{needs}
-use Rattle.rules.specs.Tests.{Stand}
+use Rattle.rules.specs.declared.Fault.the-variants.{Clear}
+use Rattle.rules.specs.Problem.{column, row}
+use Rattle.rules.specs.Tests.{ownFault, Stand}
 use Rattle.rules.proofs.Bounds.{member}
-use Rattle.proposal.proofs.Walk.{Unmet, Own, passed-none, passed-more, unmet-none, unmet-more, own-read, all-clear, own-first, met-first}
+use Rattle.rules.proofs.Meaning.{own-alone}
+use Rattle.row_words.specs.RowWords.{RowWords}
+use Rattle.row_words.proofs.Taking.{words-none}
+use Rattle.proposal.proofs.Walk.{Unmet, Own, Turn, turn-read, passed-none, passed-more, words-passed, unmet-none, unmet-more, sought, own-read, all-clear, own-first, met-first}
 use Rattle.proposal.proofs.first_fault.Statement.{statement}
 use Rattle.proposal.proofs.first_fault.Tie as tie
 
 abbrev Inv-loop : tie.InvT-loop
-Inv-loop p w messages j i₀ i = (i ≤ j) × Unmet p w i j
+Inv-loop p w messages rows j c r step i₀ i = (i < j) × Unmet p w i j
 
 abbrev μ-loop : tie.MeasureT-loop
-μ-loop p w messages j i₀ i = j - i
+μ-loop p w messages rows j c r step i₀ i = j - i
 
 abbrev Inv-faults : tie.InvT-faults
-Inv-faults p w messages j₀ j = (j ≤ messages) × Stand p j w
+Inv-faults p w messages rows taken₀ j₀ taken j = (j ≤ messages) × Stand p j w × RowWords p w j taken
 
 abbrev μ-faults : tie.MeasureT-faults
-μ-faults p w messages j₀ j = messages - j
+μ-faults p w messages rows taken₀ j₀ taken j = messages - j
+
+-- from where a message is tested by itself back to its turn, and to the call's start
+abbrev message : tie.After-own-fault Inv-loop μ-loop Inv-faults μ-faults → tie.At-faults Inv-loop μ-loop Inv-faults μ-faults
+message c = c .before .before .before .before .before
+
+abbrev begun : tie.At-faults Inv-loop μ-loop Inv-faults μ-faults → tie.Start Inv-loop μ-loop Inv-faults μ-faults
+begun c = c .before .before .before .before
 
 faults-holds : tie.Need-faults-holds Inv-loop μ-loop Inv-faults μ-faults
-faults-holds c = (omega arith, passed-none)
+faults-holds c = let start = c .before .before .before in (omega arith, passed-none, words-none (start .args .p .now) (start .args .w .now) (start .pre .0))
+
+repeat-of-requires : tie.Need-repeat-of-requires Inv-loop μ-loop Inv-faults μ-faults
+repeat-of-requires c κs = member (begun (c .before .before .before) .pre .0) (omega arith)
 
 own-fault-requires : tie.Need-own-fault-requires Inv-loop μ-loop Inv-faults μ-faults
-own-fault-requires c κs = member (c .before .before .before .before .before .before .pre .0) (omega arith)
+own-fault-requires c κs = member (begun (c .before .before .before .before) .pre .0) (omega arith)
 
 -- the fault of message j by itself
 own : (c : tie.After-own-fault Inv-loop μ-loop Inv-faults μ-faults)
-    → let at = c .before .before .before .before in let start = at .before .before .before in Own (start .args .p .now) (start .args .w .now) (at .faults .j) (c .own-fault .result)
-own c = own-read (c .before .before .column-of .ensures .0) (c .before .row-of .ensures .0) (c .own-fault .ensures)
+    → let at = message c in let start = begun at in Own (start .args .p .now) (start .args .w .now) (at .faults .j) (c .own-fault .result)
+own c = own-read (c .before .before .before .column-of .ensures .0) (c .before .before .row-of .ensures .0) (c .own-fault .ensures)
+
+-- it has none: then it can have its column and base row
+clear : (c : tie.After-enum-told Inv-loop μ-loop Inv-faults μ-faults)
+    → let at = message (c .before .before) in
+    let start = begun at in ownFault (start .args .p .now) (at .faults .j) (column (start .args .w .now) (at .faults .j)) (row (start .args .w .now) (at .faults .j)) ≡ Clear
+clear c = sym (own (c .before .before) .is) ∙ c .enum-told .given .1
+
+occupy-requires : tie.Need-occupy-requires Inv-loop μ-loop Inv-faults μ-faults
+occupy-requires c κs =
+    let told = c .before in
+    let tested = told .before .before in
+    let at = message tested in
+    let most = begun at .pre .0 .header .columns-most in
+    let placed = own-alone _ _ _ _ (clear told) .placed in
+    let asked = tested .before in (
+      (omega arith, omega arith, omega arith, omega (arith, asked .before .before .column-of .ensures .0), omega (arith, asked .before .row-of .ensures .0, asked .repeat-of .ensures .is)),
+      at .faults .inv .2 .long,
+    )
+
+-- its cells are marked
+turn : (c : tie.After-occupy Inv-loop μ-loop Inv-faults μ-faults)
+    → let at = message (c .before .before .before .before) in
+    let start = begun at in Turn (start .args .p .now) (start .args .w .now) (at .faults .j) (at .faults .taken) (c .occupy .last .0) (c .occupy .result)
+turn c =
+    let told = c .before .before in
+    let asked = told .before .before .before in
+    let at = message (told .before .before) in
+    turn-read (member (begun at .pre .0) (omega arith)) (at .faults .inv .1) (clear told) (at .faults .inv .2)
+    (asked .before .before .column-of .ensures .0) (asked .before .row-of .ensures .0) (asked .repeat-of .ensures .is) (at .before .rows-of .ensures .0) (c .occupy .ensures)
 
 loop-holds : tie.Need-loop-holds Inv-loop μ-loop Inv-faults μ-faults
-loop-holds c = (omega arith, unmet-none)
+loop-holds c = (sought (turn (c .before)) (c .if2 .taken) unmet-none, unmet-none)
 
 do-meet-requires : tie.Need-do-meet-requires Inv-loop μ-loop Inv-faults μ-faults
 do-meet-requires c κs =
-    let formed = c .before .before .before .before .before .before .before .before .before .before .before .pre .0 in
+    let start = begun (message (c .before .before .before .before .before .before)) in
+    let formed = start .pre .0 in
     ((member formed (omega arith), member formed (omega arith)), (omega arith, omega arith))
 
 loop-again : tie.Need-loop-again Inv-loop μ-loop Inv-faults μ-faults
-loop-again c = (omega arith, unmet-more (c .before .before .before .loop .inv .1) (c .before .do-meet .ensures) (c .if2 .left))
+loop-again c =
+    let looped = c .before .before in
+    let more = unmet-more (looped .loop .inv .1) (c .before .do-meet .ensures) (c .if3 .left) in
+    (sought (turn (looped .before .before)) (looped .before .if2 .taken) more, more)
 
 faults-again : tie.Need-faults-again Inv-loop μ-loop Inv-faults μ-faults
-faults-again c =
-    let clear = c .before .before in
-    let passed = clear .before .before .before .before .before .before in
-    (omega arith, passed-more (passed .faults .inv .1) (own (clear .before .before)) (clear .enum-told .given .1) (omega arith) (c .before .loop .inv .1))
+faults-again c = let done = turn (c .before) in (omega arith, passed-more done (c .if2 .left), words-passed done)
 
 returns : tie.Need-returns Inv-loop μ-loop Inv-faults μ-faults
-returns c = all-clear (c .before .faults .inv .1) (c .before .before .before .before .pre .1) (omega arith)
+returns c = let at = c .before in all-clear (at .faults .inv .1) (begun at .pre .1) (omega arith)
 
 returns-2 : tie.Need-returns-2 Inv-loop μ-loop Inv-faults μ-faults
 returns-2 c =
     let bad = c .before in
-    let passed = bad .before .before .before .before .before .before in
-    own-first (passed .faults .inv .1) (omega arith) (own (bad .before .before)) (bad .own .given .1)
+    let tested = bad .before .before in
+    own-first (message tested .faults .inv .1) (omega arith) (own tested) (bad .own .given .1)
 
 returns-3 : tie.Need-returns-3 Inv-loop μ-loop Inv-faults μ-faults
 returns-3 c =
-    let clear = c .before .before .before .before in
-    let passed = clear .before .before .before .before .before .before in
-    met-first (passed .faults .inv .1) (omega arith) (c .before .before .before .loop .inv .1) (own (clear .before .before)) (clear .enum-told .given .1) (omega arith) (c .before .do-meet .ensures) (c .if2 .taken)
+    let looped = c .before .before in
+    let told = looped .before .before .before .before in
+    met-first (message (told .before .before) .faults .inv .1) (omega arith) (looped .loop .inv .1) (own (told .before .before)) (told .enum-told .given .1) (omega arith) (c .before .do-meet .ensures) (c .if3 .taken)
 
 pub first-fault-spec : {M : Type 1} → statement M
 first-fault-spec =
@@ -72,12 +119,15 @@ first-fault-spec =
     μ-loop
     Inv-faults
     μ-faults
+    (λ c κs. search needs)
     faults-holds
     (λ c κs. search needs)
     (λ c κs. search needs)
+    repeat-of-requires
     own-fault-requires
     (λ c. search needs)
     (λ c. search needs)
+    occupy-requires
     loop-holds
     do-meet-requires
     (λ c. search needs)
