@@ -1,4 +1,4 @@
--- The walk over messages and earlier messages, step by step.
+-- The walk over the messages, and over the earlier ones where a message found a cell taken, step by step.
 use Prim.Native.Nat.{ℕ, _+_, _<_}
 use mathlib.Core.Path.{_≡_, sym, _∙_}
 use mathlib.Core.Bool.{Bool, true, false}
@@ -41,7 +41,10 @@ passed-none = record { each = λ k l. absurd (omega arith) }
 pub unmet-none : {p w : List ℕ} {j : ℕ} → Unmet p w 0 j
 unmet-none = record { none = λ k l. absurd (omega arith) }
 
--- message j has no fault of its own and has marked its cells; b is what it found there
+pub unmet-more : {p w : List ℕ} {i j : ℕ} {b : Bool} → Unmet p w i j → b ≡ meets p w i j → b ≡ false → Unmet p w (i + 1) j
+unmet-more u e h = record { none = below-more _ _ (u .none) (sym e ∙ h) }
+
+-- message j has no fault of its own and has marked its cells; b says whether it found one of them taken
 pub record Turn (p w : List ℕ) (j : ℕ) (t t′ : List ℕ) (b : Bool) : Type 0 where
   pub member : Member p j
   pub before : Stand p j w
@@ -62,12 +65,19 @@ module _ {p w t t′ : List ℕ} {j : ℕ} {b : Bool} (u : Turn p w j t t′ b) 
       (λ h. stands (u .before) k h)
       (eq-or-lt-of-le l))
 
-  -- where it did, the lowest of them is not below any that does not meet it
+  -- where it did, an earlier message meets it: if those before i do not, i is an earlier one too
   pub sought : {i : ℕ} → b ≡ true → Unmet p w i j → i < j
   sought {i} h n =
       let k = some-at j (λ k. meets p w k j) (sym tells ∙ h) in
       let least : ¬ (k .0 < i) = λ l. not-both (k .2) (n .none (k .0) l) in
       omega (arith, k .1)
+
+  -- and the first that does is the one to be named
+  pub met-first : {m i : ℕ} {met : Bool} → j < m → Unmet p w i j → i < j → met ≡ meets p w i j → met ≡ true → Bad (Meeting j i) ≡ firstFault m (fault p w)
+  unfolding fault meetingFault
+  met-first {m} {i} l n k e t =
+      let lowest = first-at j (λ k. guard (meets p w k j) (Meeting j k)) i (Meeting j i) k (λ g h. rw (n .none g h)) (rw (← e, t)) in
+      sym (first-at m (fault p w) j (Meeting j i) l (u .before .each) (rw (u .own) lowest))
 
   -- where it did not, it has no fault, and the words say what it has taken too
   pub passed-more : b ≡ false → Stand p (j + 1) w
@@ -77,23 +87,13 @@ module _ {p w t t′ : List ℕ} {j : ℕ} {b : Bool} (u : Turn p w j t t′ b) 
   pub words-passed : RowWords p w (j + 1) t′
   words-passed = words-more (u .member) (u .words) (u .marked)
 
-module _ {p w : List ℕ} {j : ℕ} where
-  pub unmet-more : {i : ℕ} {b : Bool} → Unmet p w i j → b ≡ meets p w i j → b ≡ false → Unmet p w (i + 1) j
-  unmet-more {i} u e h = record { none = below-more _ _ (u .none) (sym e ∙ h) }
+module _ {p w : List ℕ} {j m : ℕ} (a : Stand p j w) where
+  pub all-clear : m ≡ messages p → j ≡ m → Clear ≡ firstFault m (fault p w)
+  all-clear em q = sym (first-clear m (fault p w) (rw q at (a .each)))
 
-  module _ {m : ℕ} (a : Stand p j w) where
-    pub all-clear : m ≡ messages p → j ≡ m → Clear ≡ firstFault m (fault p w)
-    all-clear em q = sym (first-clear m (fault p w) (rw q at (a .each)))
-
-    pub own-first : {f : Fault} {r : Refusal} → j < m → Own p w j f → f ≡ Bad r → Bad r ≡ firstFault m (fault p w)
-    unfolding fault
-    own-first {r = r} l e h = sym (first-at m (fault p w) j r l (a .each) (rw (← e .is, h)))
-
-    pub met-first : {f : Fault} {i : ℕ} {b : Bool} → j < m → Unmet p w i j → Own p w j f → f ≡ Clear → i < j → b ≡ meets p w i j → b ≡ true → Bad (Meeting j i) ≡ firstFault m (fault p w)
-    unfolding fault meetingFault
-    met-first {i = i} l u e h k eb t =
-        let met = first-at j (λ k. guard (meets p w k j) (Meeting j k)) i (Meeting j i) k (λ g m. rw (u .none g m)) (rw (← eb, t)) in
-        sym (first-at m (fault p w) j (Meeting j i) l (a .each) (rw (← e .is, h) met))
+  pub own-first : {f : Fault} {r : Refusal} → j < m → Own p w j f → f ≡ Bad r → Bad r ≡ firstFault m (fault p w)
+  unfolding fault
+  own-first {r = r} l e h = sym (first-at m (fault p w) j r l (a .each) (rw (← e .is, h)))
 
 -- the number of words comes first
 module _ (p w : List ℕ) {n : ℕ} (en : n ≡ proposalWords p) where

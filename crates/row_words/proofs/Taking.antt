@@ -1,9 +1,9 @@
--- The row words, message by message: with the cells of one more they say what one more has taken, and it found one of them set exactly where it meets an earlier one.
+-- The row words, message by message: each marks its cells, and finds one of them set exactly where it meets an earlier one.
 use Prim.Native.Nat.{ℕ, _+_, _*_, _≤_, _<_}
-use mathlib.Core.Path.{_≡_, refl, sym, subst, _∙_}
+use mathlib.Core.Path.{_≡_, refl, sym, _∙_}
 use mathlib.Core.Bool.{Bool, true, false}
 use mathlib.Core.List.{List}
-use mathlib.Core.Logic.{inl, inr, ⊎-elim}
+use mathlib.Core.Logic.{⊎-elim}
 use native.Mathlib.Nat.{eq-or-lt-of-le, le-of-suc-le-suc}
 use native.Mathlib.Omega.{arith}
 use lib.ListN.{getD, replicate, length-replicate, getD-replicate}
@@ -14,12 +14,12 @@ use Rattle.basics.proofs.Strides.{on-stride}
 use Rattle.basics.proofs.Tests.{T-true, true-T, never, not-both, some-on, some-off}
 use Rattle.rules.specs.Cells.{Here}
 use Rattle.rules.specs.Parts.{Member}
-use Rattle.rules.specs.Problem.{mostRows, rows, messages, repeat, column, row, WellFormed, Placed}
+use Rattle.rules.specs.Problem.{mostRows, rows, repeat, column, row, WellFormed, Placed}
 use Rattle.rules.specs.Tests.{meets}
 use Rattle.rules.proofs.Bounds.{member, repeat-least}
 use Rattle.rules.proofs.Cells.{cell-meets, meets-cell}
 use Rattle.rules.proofs.Meaning.{meets-is, is-meets}
-use Rattle.row_words.specs.RowWords.{Taken, RowWords, SetBefore, Occupied}
+use Rattle.row_words.specs.RowWords.{Taken, RowWords, Occupied}
 
 -- no message has taken anything
 pub words-none : (p w : List ℕ) → WellFormed p → RowWords p w 0 (replicate mostRows 0)
@@ -33,8 +33,8 @@ words-none p w wf = record {
 
 module _ {p w t t′ : List ℕ} {j : ℕ} {b : Bool} (m : Member p j) (g : RowWords p w j t) (o : Occupied t (column w j) (row w j) (repeat p j) (rows p) t′ b) where
   -- a row is one of the message's, or its word is as it was
-  by-row : {P : Type 0} (i : ℕ) → i < rows p → ((k : ℕ) → i ≡ row w j + k * repeat p j → P) → (getD t′ i 0 ≡ getD t i 0 → P) → P
-  by-row i li f h =
+  by-row : {P : Type 0} (i : ℕ) → ((k : ℕ) → i ≡ row w j + k * repeat p j → P) → (getD t′ i 0 ≡ getD t i 0 → P) → P
+  by-row i f h =
       ⊎-elim (λ s. f (s .0) (s .1)) (λ n. h (o .marked .elsewhere i (λ k l. n k))) (on-stride (row w j) (repeat p j) i (repeat-least m))
 
   pub words-more : RowWords p w (j + 1) t′
@@ -45,7 +45,7 @@ module _ {p w t t′ : List ℕ} {j : ℕ} {b : Bool} (m : Member p j) (g : RowW
 
       only : (i c : ℕ) → i < rows p → Has (getD t′ i 0) c → Taken p w (j + 1) i c
       only i c li h =
-          by-row i li
+          by-row i
           (λ k e.
           let here = o .marked .here k (omega arith) in
           ⊎-elim
@@ -60,7 +60,7 @@ module _ {p w t t′ : List ℕ} {j : ℕ} {b : Bool} (m : Member p j) (g : RowW
           (λ e. own (rw e at (k .here)))
           (λ l.
           let h = g .each i c li .1 (record { by = k .by; among = l; here = k .here }) in
-          by-row i li (λ n e. rw e (o .marked .here n (omega arith) .keeps c (rw e at h))) (λ e. rw e h))
+          by-row i (λ n e. rw e (o .marked .here n (omega arith) .keeps c (rw e at h))) (λ e. rw e h))
           (eq-or-lt-of-le (le-of-suc-le-suc (omega (arith, k .among))))
         where
           own : Here p w j i c → Has (getD t′ i 0) c

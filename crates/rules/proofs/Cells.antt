@@ -1,6 +1,6 @@
 -- Two messages meet exactly where they have a cell of the matrix in common.
 use Prim.Native.Nat.{ℕ, _+_, _*_, _<_}
-use mathlib.Core.Path.{_≡_, refl, sym, _∙_}
+use mathlib.Core.Path.{refl, sym, _∙_}
 use mathlib.Core.List.{List}
 use native.Mathlib.Omega.{arith}
 use Rattle.rules.specs.Cells.{Here}
@@ -12,7 +12,7 @@ use Rattle.rules.proofs.Digits.{rows-agree, rows-meet, Common}
 use Rattle.rules.proofs.Exact.{common-divides}
 use Rattle.rules.proofs.Meaning.{Meets}
 
--- both have the cell of this row and column
+-- messages j and k have one cell of the matrix: it stands in this row, and in k's column
 pub record Both (p w : List ℕ) (j k : ℕ) : Type 0 where
   pub at-row : ℕ
   pub low : at-row < rows p

@@ -1,6 +1,6 @@
--- Outer loop: the messages before j have no fault, and the row words say which cells they have taken. Inner loop, where message j found one of its cells taken: the messages before i
--- do not meet it, and an earlier one does, so that the loop ends at the lowest. So whatever the label yields is the fault of the first message that has one, and where j reaches the
--- end there is none.
+-- Outer loop: the messages before j have no fault, and the row words say which cells they have taken. Inner loop, where message j found one of its cells taken:
+-- the messages before i do not meet it, and an earlier one does, so that the loop ends at the lowest. So whatever the label yields is the fault of the first message
+-- that has one, and where j reaches the end there is none.
 use Prim.Native.Nat.{_≤_, _<_, _-_}
 use mathlib.Core.Path.{_≡_, sym, _∙_}
 use native.Mathlib.Omega.{arith}
@@ -12,7 +12,8 @@ use Rattle.rules.proofs.Bounds.{member}
 use Rattle.rules.proofs.Meaning.{own-alone}
 use Rattle.row_words.specs.RowWords.{RowWords}
 use Rattle.row_words.proofs.Taking.{words-none}
-use Rattle.proposal.proofs.Walk.{Unmet, Own, Turn, turn-read, passed-none, passed-more, words-passed, unmet-none, unmet-more, sought, own-read, all-clear, own-first, met-first}
+use Rattle.proposal.proofs.Walk.{Unmet, unmet-none, unmet-more, Own, own-read, own-first, passed-none, all-clear}
+use Rattle.proposal.proofs.Walk.{Turn, turn-read, sought, met-first, passed-more, words-passed}
 use Rattle.proposal.proofs.first_fault.Statement.{statement}
 use Rattle.proposal.proofs.first_fault.Tie as tie
 
@@ -62,10 +63,11 @@ occupy-requires c κs =
     let at = message tested in
     let most = begun at .pre .0 .header .columns-most in
     let placed = own-alone _ _ _ _ (clear told) .placed in
-    let asked = tested .before in (
-      (omega arith, omega arith, omega arith, omega (arith, asked .before .before .column-of .ensures .0), omega (arith, asked .before .row-of .ensures .0, asked .repeat-of .ensures .is)),
-      at .faults .inv .2 .long,
-    )
+    let asked = tested .before in
+    let c-is = asked .before .before .column-of .ensures .0 in
+    let r-is = asked .before .row-of .ensures .0 in
+    let step-is = asked .repeat-of .ensures .is in
+    ((omega arith, omega arith, omega arith, omega (arith, c-is), omega (arith, r-is, step-is)), at .faults .inv .2 .long)
 
 -- its cells are marked
 turn : (c : tie.After-occupy Inv-loop μ-loop Inv-faults μ-faults)
@@ -76,7 +78,8 @@ turn c =
     let asked = told .before .before .before in
     let at = message (told .before .before) in
     turn-read (member (begun at .pre .0) (omega arith)) (at .faults .inv .1) (clear told) (at .faults .inv .2)
-    (asked .before .before .column-of .ensures .0) (asked .before .row-of .ensures .0) (asked .repeat-of .ensures .is) (at .before .rows-of .ensures .0) (c .occupy .ensures)
+    (asked .before .before .column-of .ensures .0) (asked .before .row-of .ensures .0) (asked .repeat-of .ensures .is) (at .before .rows-of .ensures .0)
+    (c .occupy .ensures)
 
 loop-holds : tie.Need-loop-holds Inv-loop μ-loop Inv-faults μ-faults
 loop-holds c = (sought (turn (c .before)) (c .if2 .taken) unmet-none, unmet-none)
@@ -108,8 +111,7 @@ returns-2 c =
 returns-3 : tie.Need-returns-3 Inv-loop μ-loop Inv-faults μ-faults
 returns-3 c =
     let looped = c .before .before in
-    let told = looped .before .before .before .before in
-    met-first (message (told .before .before) .faults .inv .1) (omega arith) (looped .loop .inv .1) (own (told .before .before)) (told .enum-told .given .1) (omega arith) (c .before .do-meet .ensures) (c .if3 .taken)
+    met-first (turn (looped .before .before)) (omega arith) (looped .loop .inv .1) (omega arith) (c .before .do-meet .ensures) (c .if3 .taken)
 
 pub first-fault-spec : {M : Type 1} → statement M
 first-fault-spec =
