@@ -6,7 +6,7 @@ ghost use mathlib.Core.Path.{_≡_};
 ghost use Prim.Native.Nat.{_*_, _<_, _≤_};
 ghost use lib.ListN.{length};
 ghost use Rattle.rules.specs.Refusal.{isClear};
-ghost use Rattle.rules.specs.Problem.{mostRows, mostColumns, messages};
+ghost use Rattle.rules.specs.Problem.{mostRows, mostColumns, messages, repeat};
 ghost use Rattle.rules.specs.Parts.{Member};
 ghost use Rattle.rules.specs.Tests.{ownFault};
 ghost use Rattle.places.specs.Places.{mostPlanned, tableAt, tableWords, Few, Steps, Allowed, Allows, Beside, Copied, FirstRow};
@@ -27,12 +27,12 @@ pub fn table_at(j: usize, i: usize) -> usize
     words::MOST_ROWS * j + i
 }
 
-// Whether message j may stand at column c and base row r by itself.
-fn may_stand(p: &[u32], j: usize, c: usize, r: usize) -> bool
-    requires { ⌜ Member (now p) j ⌝ }
+// Whether message j, which is sent every `step` rows, may stand at column c and base row r by itself.
+fn may_stand(p: &[u32], j: usize, step: usize, c: usize, r: usize) -> bool
+    requires { ⌜ Member (now p) j × (step ≡ repeat (now p) j) ⌝ }
     ensures { λ b. ⌜ b ≡ isClear (ownFault (now (p .entry)) j c r) ⌝ }
 {
-    let fault = placing::own_fault(p, j, c, r);
+    let fault = placing::own_fault(p, j, step, c, r);
     match fault {
         Fault::Clear => true,
         Fault::Bad(_) => false,
@@ -40,15 +40,15 @@ fn may_stand(p: &[u32], j: usize, c: usize, r: usize) -> bool
 }
 
 // The columns in which message j may stand with base row r.
-fn allowed_in(p: &[u32], j: usize, r: usize) -> u32
-    requires { ⌜ Member (now p) j ⌝ }
+fn allowed_in(p: &[u32], j: usize, step: usize, r: usize) -> u32
+    requires { ⌜ Member (now p) j × (step ≡ repeat (now p) j) ⌝ }
     ensures { λ x. ⌜ Allowed (now (p .entry)) j r x ⌝ }
 {
     let columns = words::columns_of(p);
     let mut x: u32 = 0;
     let mut c = 0;
     while c < columns {
-        if may_stand(p, j, c, r) {
+        if may_stand(p, j, step, c, r) {
             x = basics::with_bit(x, c as u32);
         }
         c += 1;
@@ -65,10 +65,10 @@ pub fn allowed(p: &[u32], table: &mut [u32; TABLE_WORDS])
     let count = words::messages_of(p);
     let mut j = 0;
     while j < count {
-        let repeat = words::repeat_of(p, j);
+        let step = words::repeat_of(p, j);
         let mut r = 0;
-        while r < repeat {
-            table[table_at(j, r)] = allowed_in(p, j, r);
+        while r < step {
+            table[table_at(j, r)] = allowed_in(p, j, step, r);
             r += 1;
         }
         j += 1;

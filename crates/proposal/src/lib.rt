@@ -27,7 +27,7 @@ fn first_fault(p: &[u32], w: &[u32], messages: usize) -> Fault
         let c = words::column_of(w, j);
         let r = words::row_of(w, j);
         let step = words::repeat_of(p, j);
-        let own = placing::own_fault(p, j, c, r);
+        let own = placing::own_fault(p, j, step, c, r);
         if let Fault::Bad(q) = own {
             break 'faults Fault::Bad(q);
         }

@@ -11,10 +11,10 @@ use Rattle.places.proofs.allowed.Statement.{statement}
 use Rattle.places.proofs.allowed.Tie as tie
 
 abbrev Inv-loop2 : tie.InvT-loop2
-Inv-loop2 p table₀ count j times r₀ table r = (r ≤ times) × (length table ≡ tableWords) × Row (λ i x. Allowed p j i) j r table₀ table
+Inv-loop2 p table₀ count j step r₀ table r = (r ≤ step) × (length table ≡ tableWords) × Row (λ i x. Allowed p j i) j r table₀ table
 
 abbrev μ-loop2 : tie.MeasureT-loop2
-μ-loop2 p table₀ count j times r₀ table r = times - r
+μ-loop2 p table₀ count j step r₀ table r = step - r
 
 abbrev Inv-loop : tie.InvT-loop
 Inv-loop p table₀ count j₀ table j = (length table ≡ tableWords) × Made p (λ k i x. Allowed p k i) j table₀ table
@@ -32,7 +32,9 @@ loop2-holds : tie.Need-loop2-holds Inv-loop2 μ-loop2 Inv-loop μ-loop
 loop2-holds c = (search needs, c .before .before .loop .inv .0, row-start _ _ _)
 
 allowed-in-requires : tie.Need-allowed-in-requires Inv-loop2 μ-loop2 Inv-loop μ-loop
-allowed-in-requires c κs = member (c .before .before .before .before .before .before .before .pre .0 .formed) (omega arith)
+allowed-in-requires c κs =
+    let asked = c .before .before in
+    (member (asked .before .before .before .before .before .pre .0 .formed) (omega arith), asked .repeat-of .ensures .is)
 
 loop2-again : tie.Need-loop2-again Inv-loop2 μ-loop2 Inv-loop μ-loop
 loop2-again c = let inv = c .before .before .before .loop2 .inv in

@@ -8,10 +8,10 @@ use Rattle.places.proofs.allowed_in.Statement.{statement}
 use Rattle.places.proofs.allowed_in.Tie as tie
 
 abbrev Inv-loop : tie.InvT-loop
-Inv-loop p j r columns x₀ c₀ x c = AllowedBelow p j r c x
+Inv-loop p j step r columns x₀ c₀ x c = AllowedBelow p j r c x
 
 abbrev μ-loop : tie.MeasureT-loop
-μ-loop p j r columns x₀ c₀ x c = columns - c
+μ-loop p j step r columns x₀ c₀ x c = columns - c
 
 loop-holds : tie.Need-loop-holds Inv-loop μ-loop
 loop-holds c = allowed-none _ _ _

@@ -43,7 +43,7 @@ repeat-of-requires : tie.Need-repeat-of-requires Inv-loop μ-loop Inv-faults μ-
 repeat-of-requires c κs = member (begun (c .before .before .before) .pre .0) (omega arith)
 
 own-fault-requires : tie.Need-own-fault-requires Inv-loop μ-loop Inv-faults μ-faults
-own-fault-requires c κs = member (begun (c .before .before .before .before) .pre .0) (omega arith)
+own-fault-requires c κs = (member (begun (c .before .before .before .before) .pre .0) (omega arith), c .repeat-of .ensures .is)
 
 -- the fault of message j by itself
 own : (c : tie.After-own-fault Inv-loop μ-loop Inv-faults μ-faults)
