@@ -22,12 +22,12 @@ own-placed p j c r e = own-alone p j c r e .placed
 pub fault-own : (p w : List ℕ) (j : ℕ) → fault p w j ≡ Clear → ownFault p j (column w j) (row w j) ≡ Clear
 fault-own p w j e = alone-own p j (column w j) (row w j) (fault-sound p w j e .alone)
 
--- the column at which it is placed is a digit of a word
+-- the column of a message that is placed is a digit of a word
 pub low-column : {p : List ℕ} {j c r : ℕ} → Few p → Placed p j c r → c < mostColumns
 low-column F P = let below = P .column-below in let most = F .formed .header .columns-most in omega arith
 
 -- ---- two messages
--- two messages of one column and with a row in common have a cell in common
+-- two messages of one column and with a row in common have a cell in common, and meet
 share : {p : List ℕ} {j k : ℕ} → Member p j → Member p k → (w : List ℕ) (i : ℕ) → column w j ≡ column w k → i % repeat p j ≡ row w j
     → i % repeat p k ≡ row w k → Meets p w j k
 share {p} {j} {k} mj mk w i e ej ek =
