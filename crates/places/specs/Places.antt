@@ -5,9 +5,10 @@ use mathlib.Core.List.{List}
 use lib.ListN.{getD}
 use Rattle.basics.specs.Bits.{Has}
 use Rattle.rules.specs.declared.Fault.the-variants.{Clear}
-use Rattle.rules.specs.Problem.{mostRows, mostColumns, messages, repeat, column, row, WellFormed}
+use Rattle.rules.specs.Problem.{mostRows, mostColumns, rows, messages, repeat, column, row, WellFormed}
 use Rattle.rules.specs.Parts.{Repeat}
 use Rattle.rules.specs.Tests.{common, ownFault, Stand}
+use Rattle.row_words.specs.RowWords.{SetBefore}
 
 -- ---- the most messages that are planned
 abbrev pub mostPlanned : ℕ
@@ -29,15 +30,20 @@ pub record Few (p : List ℕ) : Type 0 where
 pub record Steps (p s : List ℕ) : Type 0 where
   pub each : (j : ℕ) → j < messages p → Repeat p j (getD s j 0)
 
--- ---- one message by itself
+-- ---- one message by itself, where the cells that the row words o have are taken
+-- it may stand at column c and base row r: it has no fault of its own, and none of its cells is taken
+pub record Open (p o : List ℕ) (j c r : ℕ) : Type 0 where
+  pub own : ownFault p j c r ≡ Clear
+  pub free : SetBefore o c r (repeat p j) (rows p) → ⊥
+
 -- x has exactly the columns in which message j may stand with base row r
-pub record Allowed (p : List ℕ) (j r x : ℕ) : Type 0 where
-  pub holds : (c : ℕ) → ownFault p j c r ≡ Clear → Has x c
-  pub only : (c : ℕ) → Has x c → ownFault p j c r ≡ Clear
+pub record Allowed (p o : List ℕ) (j r x : ℕ) : Type 0 where
+  pub holds : (c : ℕ) → Open p o j c r → Has x c
+  pub only : (c : ℕ) → Has x c → Open p o j c r
 
 -- the table t has such a word for each message and base row
-pub record Allows (p t : List ℕ) : Type 0 where
-  pub each : (j r : ℕ) → j < messages p → r < repeat p j → Allowed p j r (getD t (tableAt j r) 0)
+pub record Allows (p o t : List ℕ) : Type 0 where
+  pub each : (j r : ℕ) → j < messages p → r < repeat p j → Allowed p o j r (getD t (tableAt j r) 0)
 
 -- ---- beside message m at column c and base row r
 -- message j at column d and base row i meets it: one column, and equal base rows modulo the smaller repeat

@@ -1,4 +1,4 @@
-// The places that messages may take, as a table: by themselves, and beside a message that is placed.
+// The places that messages may take, as a table: by themselves, in cells that are not taken, and beside a message that is placed.
 use rules::Fault;
 use rules::placing;
 use rules::words;
@@ -40,15 +40,16 @@ fn may_stand(p: &[u32], j: usize, step: usize, c: usize, r: usize) -> bool
 }
 
 // The columns in which message j may stand with base row r.
-fn allowed_in(p: &[u32], j: usize, step: usize, r: usize) -> u32
-    requires { ⌜ Member (now p) j × (step ≡ repeat (now p) j) ⌝ }
-    ensures { λ x. ⌜ Allowed (now (p .entry)) j r x ⌝ }
+fn allowed_in(p: &[u32], taken: &[u32; words::MOST_ROWS], j: usize, step: usize, r: usize) -> u32
+    requires { ⌜ Member (now p) j × (step ≡ repeat (now p) j) × (r < step) ⌝ }
+    ensures { λ x. ⌜ Allowed (now (p .entry)) (now (taken .entry)) j r x ⌝ }
 {
     let columns = words::columns_of(p);
+    let busy = row_words::seen_in(taken, words::rows_of(p), step, r);
     let mut x: u32 = 0;
     let mut c = 0;
     while c < columns {
-        if may_stand(p, j, step, c, r) {
+        if !basics::has_bit(busy, c as u32) & may_stand(p, j, step, c, r) {
             x = basics::with_bit(x, c as u32);
         }
         c += 1;
@@ -57,10 +58,10 @@ fn allowed_in(p: &[u32], j: usize, step: usize, r: usize) -> u32
 }
 
 // The columns in which each message may stand with each base row, as a table.
-pub fn allowed(p: &[u32], table: &mut [u32; TABLE_WORDS])
+pub fn allowed(p: &[u32], taken: &[u32; words::MOST_ROWS], table: &mut [u32; TABLE_WORDS])
     requires { ⌜ Few (now p) ⌝ }
     requires { ⌜ length (now table) ≡ tableWords ⌝ }
-    ensures { λ _. ⌜ Allows (now (p .entry)) (now (table .exit)) ⌝ }
+    ensures { λ _. ⌜ Allows (now (p .entry)) (now (taken .entry)) (now (table .exit)) ⌝ }
 {
     let count = words::messages_of(p);
     let mut j = 0;
@@ -68,7 +69,7 @@ pub fn allowed(p: &[u32], table: &mut [u32; TABLE_WORDS])
         let step = words::repeat_of(p, j);
         let mut r = 0;
         while r < step {
-            table[table_at(j, r)] = allowed_in(p, j, step, r);
+            table[table_at(j, r)] = allowed_in(p, taken, j, step, r);
             r += 1;
         }
         j += 1;

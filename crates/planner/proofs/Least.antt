@@ -25,7 +25,7 @@ module _ {p : List ℕ} (wf : WellFormed p) where
       record { in-range = h .0; acceptable = h .1 }
 
   -- the first words of what is found are the least plan
-  pub least-plan : (z u : List ℕ) → proposalWords p ≤ length z → Best p 0 z u → Least p (take (proposalWords p) u)
+  pub least-plan : (z u : List ℕ) → proposalWords p ≤ length z → Best (Stand p (messages p)) (messages p) 0 z u → Least p (take (proposalWords p) u)
   least-plan z u room B =
       let long = B .long in
       let same : (k : ℕ) → k < proposalWords p → getD u k 0 ≡ getD (take (proposalWords p) u) k 0 = λ k l. sym (getD-take (proposalWords p) u k 0 l) in
@@ -33,9 +33,9 @@ module _ {p : List ℕ} (wf : WellFormed p) where
       record { columns-same = λ j l. same (2 * j) (omega arith); rows-same = λ j l. same (2 * j + 1) (omega arith) } in
       record {
         plan = stands-plan (length-take-le (proposalWords p) u (omega arith))
-            (record { each = λ j l. sym (fault-agree p j (agree-less (j + 1) (omega arith) g)) ∙ B .stands .each j l });
+            (record { each = λ j l. sym (fault-agree p j (agree-less (j + 1) (omega arith) g)) ∙ B .among .each j l });
         least = λ v h. not-after-agree v g (B .least v (plan-stands h) (agree-none z v));
       }
 
-  pub no-plan : {z : List ℕ} → Nowhere p 0 z → (w : List ℕ) → Plan p w → ⊥
+  pub no-plan : {z : List ℕ} → Nowhere (Stand p (messages p)) 0 z → (w : List ℕ) → Plan p w → ⊥
   no-plan {z} N w h = N .none w (plan-stands h) (agree-none z w)

@@ -10,6 +10,7 @@ use Rattle.rules.specs.declared.Fault.the-variants.{Clear}
 use Rattle.rules.specs.declared.Refusal.{Refusal}
 use Rattle.rules.specs.declared.Refusal.the-variants.{NoPlan, TooMany, Room}
 use Rattle.rules.specs.Problem.{messages, proposalWords, WellFormed}
+use Rattle.rules.specs.Tests.{Stand}
 use Rattle.rules.proofs.Told.{answers-refused}
 use Rattle.reader.specs.declared.answer.Read.{Read}
 use Rattle.reader.specs.declared.answer.Read.the-variants.{Refused as NotRead}
@@ -39,10 +40,10 @@ module _ (p d : List ℕ) where
       ready = rw (le-ltb mostPlanned (messages p) few, le-ltb (length d) (proposalWords p) room)
 
       module _ (wf : WellFormed p) where
-        pub not-found : {z : List ℕ} → Nowhere p 0 z → Answered (unready p d) p d d (Refused NoPlan)
+        pub not-found : {z : List ℕ} → Nowhere (Stand p (messages p)) 0 z → Answered (unready p d) p d d (Refused NoPlan)
         not-found N = none ready (no-plan wf N) (answers-refused NoPlan refl refl refl)
 
-        pub is-found : {z u e : List ℕ} {n : ℕ} → n ≡ proposalWords p → n ≤ length z → Best p 0 z u → e ≡ take n u ++ drop (length (take n u)) d
+        pub is-found : {z u e : List ℕ} {n : ℕ} → n ≡ proposalWords p → n ≤ length z → Best (Stand p (messages p)) (messages p) 0 z u → e ≡ take n u ++ drop (length (take n u)) d
             → Answered (unready p d) p d e (Proposal n)
         is-found {z} {u} {e} {n} en long B h =
             let same = B .long in

@@ -8,9 +8,9 @@ use rules::Refusal;
 use rules::words;
 ghost use mathlib.Core.Path.{_≡_};
 ghost use Prim.Native.Nat.{_<_, _≤_};
-ghost use Rattle.rules.specs.Problem.{mostRows, mostColumns, WellFormed};
-ghost use Rattle.places.specs.Places.{mostPlanned};
-ghost use Rattle.planner.specs.Search.{put, From, Begun, Searched};
+ghost use Rattle.rules.specs.Problem.{mostRows, mostColumns, messages, WellFormed};
+ghost use Rattle.places.specs.Places.{mostPlanned, Few};
+ghost use Rattle.planner.specs.Search.{put, unplanned, From, Begun, Fitting, Suiting, Searched};
 ghost use Rattle.planner.specs.Promise.{unready, Answered, Planning};
 
 // What a search found, if it found something.
@@ -64,7 +64,7 @@ fn search(
     at: usize,
 ) -> Found
     requires { ⌜ Begun (now p) (now steps) (now table) at plan ⌝ }
-    ensures { λ f. ⌜ Searched (now (p .entry)) at plan (f .found) (f .plan) ⌝ }
+    ensures { λ f. ⌜ Searched (Fitting (now (p .entry)) (now (table .entry)) at) (messages (now (p .entry))) at plan (f .found) (f .plan) ⌝ }
 {
     let count = words::messages_of(p);
     if count <= at {
@@ -101,6 +101,19 @@ fn search(
     Found { found: false, plan }
 }
 
+// The least proposal without a fault that has none of the cells that are taken, or that there is none.
+fn plan_around(p: &[u32], taken: &[u32; words::MOST_ROWS]) -> Found
+    requires { ⌜ Few (now p) ⌝ }
+    ensures { λ f. ⌜ Searched (Suiting (now (p .entry)) (now (taken .entry))) (messages (now (p .entry))) 0 unplanned (f .found) (f .plan) ⌝ }
+{
+    let mut table = [basics::FILL; places::TABLE_WORDS];
+    places::allowed(p, taken, &mut table);
+    let steps = places::steps_of(p);
+    let mut prices = [prices::FIRST_PRICE; prices::CELLS];
+    let unset = [0u32; PLAN_WORDS];
+    search(p, &steps, &table, &mut prices, unset, unset, false, 0)
+}
+
 // Writes the least acceptable proposal of a problem, or says why not.
 fn plan_words(p: &[u32], proposal: &mut [u32]) -> Planned
     requires { ⌜ WellFormed (now p) ⌝ }
@@ -114,12 +127,7 @@ fn plan_words(p: &[u32], proposal: &mut [u32]) -> Planned
     if proposal.len() < n {
         return Planned::Refused(Refusal::Room);
     }
-    let mut table = [basics::FILL; places::TABLE_WORDS];
-    places::allowed(p, &mut table);
-    let steps = places::steps_of(p);
-    let mut prices = [prices::FIRST_PRICE; prices::CELLS];
-    let unset = [0u32; PLAN_WORDS];
-    let got = search(p, &steps, &table, &mut prices, unset, unset, false, 0);
+    let got = plan_around(p, &[0u32; words::MOST_ROWS]);
     if !got.found {
         return Planned::Refused(Refusal::NoPlan);
     }

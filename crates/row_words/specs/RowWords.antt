@@ -28,6 +28,11 @@ pub record SetBefore (t : List ℕ) (c r step rows : ℕ) : Type 0 where
   pub low : r + turn * step < rows
   pub set : Has (getD t (r + turn * step) 0) c
 
+-- x has exactly the columns that were
+pub record SeenIn (t : List ℕ) (r step rows x : ℕ) : Type 0 where
+  pub only : (c : ℕ) → Has x c → SetBefore t c r step rows
+  pub all : (c : ℕ) → SetBefore t c r step rows → Has x c
+
 -- t′ is t with it set there, and nowhere else; b says whether it was before
 pub record Occupied (t : List ℕ) (c r step rows : ℕ) (t′ : List ℕ) (b : Bool) : Type 0 where
   pub marked : Strode (λ (x : ℕ). Joined x c) (λ (i : ℕ). i) r step rows t t′

@@ -11,16 +11,16 @@ use Rattle.places.proofs.allowed.Statement.{statement}
 use Rattle.places.proofs.allowed.Tie as tie
 
 abbrev Inv-loop2 : tie.InvT-loop2
-Inv-loop2 p table₀ count j step r₀ table r = (r ≤ step) × (length table ≡ tableWords) × Row (λ i x. Allowed p j i) j r table₀ table
+Inv-loop2 p taken table₀ count j step r₀ table r = (r ≤ step) × (length table ≡ tableWords) × Row (λ i x. Allowed p taken j i) j r table₀ table
 
 abbrev μ-loop2 : tie.MeasureT-loop2
-μ-loop2 p table₀ count j step r₀ table r = step - r
+μ-loop2 p taken table₀ count j step r₀ table r = step - r
 
 abbrev Inv-loop : tie.InvT-loop
-Inv-loop p table₀ count j₀ table j = (length table ≡ tableWords) × Made p (λ k i x. Allowed p k i) j table₀ table
+Inv-loop p taken table₀ count j₀ table j = (length table ≡ tableWords) × Made p (λ k i x. Allowed p taken k i) j table₀ table
 
 abbrev μ-loop : tie.MeasureT-loop
-μ-loop p table₀ count j₀ table j = count - j
+μ-loop p taken table₀ count j₀ table j = count - j
 
 loop-holds : tie.Need-loop-holds Inv-loop2 μ-loop2 Inv-loop μ-loop
 loop-holds c = (c .before .before .pre .1, made-start _ _ _)
@@ -34,7 +34,7 @@ loop2-holds c = (search needs, c .before .before .loop .inv .0, row-start _ _ _)
 allowed-in-requires : tie.Need-allowed-in-requires Inv-loop2 μ-loop2 Inv-loop μ-loop
 allowed-in-requires c κs =
     let asked = c .before .before in
-    (member (asked .before .before .before .before .before .pre .0 .formed) (omega arith), asked .repeat-of .ensures .is)
+    (member (asked .before .before .before .before .before .pre .0 .formed) (omega arith), asked .repeat-of .ensures .is, omega arith)
 
 loop2-again : tie.Need-loop2-again Inv-loop2 μ-loop2 Inv-loop μ-loop
 loop2-again c = let inv = c .before .before .before .loop2 .inv in

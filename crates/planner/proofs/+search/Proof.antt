@@ -1,7 +1,7 @@
 -- What the loops know: nothing without a fault that begins with the placements made has message `at` at a place passed. The first place behind which the call
 -- finds something is that of the least. The number of messages still unplaced falls with each call.
 use Prim.Native.Nat.{ℕ, _-_, _<_}
-use mathlib.Core.Path.{_≡_, refl, sym, subst, _∙_}
+use mathlib.Core.Path.{_≡_, refl, sym, ap, _∙_}
 use mathlib.Core.Bool.{true}
 use mathlib.Core.Logic.{⊎-elim}
 use native.Mathlib.Omega.{arith}
@@ -14,10 +14,11 @@ use borrow.Fn.Kinds.{In, Out}
 use borrow.Fn.PlainCycle.{Measures, is, falls, and}
 use Rattle.rules.specs.Problem.{messages, Gives}
 use Rattle.rules.specs.Parts.{Repeat}
-use Rattle.places.specs.Places.{mostPlanned, tableWords}
-use Rattle.planner.specs.Search.{planWords, LeftIn, From}
-use Rattle.planner.proofs.Gone.{Gone, gone-start, gone-closed, gone-tried, gone-column, gone-all, found, whole, put-stands}
-use Rattle.planner.proofs.Room.{from-all, leaves-more, no-room}
+use Rattle.rules.proofs.Meaning.{stands}
+use Rattle.places.specs.Places.{mostPlanned, tableAt, tableWords}
+use Rattle.planner.specs.Search.{planWords, Fitting, From}
+use Rattle.planner.proofs.Gone.{Gone, gone-start, gone-column, gone-all, put-stands}
+use Rattle.planner.proofs.Room.{from-all, leaves-more, all-fit, no-room, gone-closed, gone-tried, found-there}
 use Rattle.planner.proofs.search.Reads as search′
 use Rattle.planner.proofs.search.Kinds as search-kinds
 use Rattle.planner.proofs.+search.Lts-search as search-lts
@@ -44,7 +45,7 @@ search-below t = and 4 search-kinds.ps (falls 4 search-kinds.ps _<_ μ-search t)
 
 abbrev search-Inv-loop2 : search-lts.InvT-loop2
 search-Inv-loop2 p steps table prices₀ plan known at count left room next₀ rest columns step c r₀ prices next r =
-    Gone p at plan c r × (length next ≡ tableWords)
+    Gone (Fitting p table at) at plan c r × (length next ≡ tableWords)
 
 abbrev search-μ-loop2 : search-lts.MeasureT-loop2
 search-μ-loop2 p steps table prices₀ plan known at count left room next₀ rest columns step c r₀ prices next r =
@@ -52,7 +53,7 @@ search-μ-loop2 p steps table prices₀ plan known at count left room next₀ re
 
 abbrev search-Inv-loop : search-lts.InvT-loop
 search-Inv-loop p steps table prices₀ plan known at count left room next₀ rest columns step c₀ prices next c =
-    Gone p at plan c 0 × (length next ≡ tableWords)
+    Gone (Fitting p table at) at plan c 0 × (length next ≡ tableWords)
 
 abbrev search-μ-loop : search-lts.MeasureT-loop
 search-μ-loop p steps table prices₀ plan known at count left room next₀ rest columns step c₀ prices next c =
@@ -120,26 +121,20 @@ few t c = omega (arith, below t c, begun t c .pre .1 .few .most)
 room : (t : ℕ) (c : search-there search-lts.Else1 t) → Gives (begun t c .args .plan) (begun t c .args .at)
 room t c = omega (arith, few t c, good-length (eInt w32) planWords (begun t c .args .plan) _ (begun t c .good .1 .1 .1 .1 .0))
 
--- how often it is sent, and the columns that are left it with a base row
+-- how often it is sent, and the word of the table that was read
 often : (t : ℕ) (c : search-there search-lts.Else1 t) → Repeat (begun t c .args .p .now) (begun t c .args .at) (getD (begun t c .args .steps .now) (begun t c .args .at) 0)
 often t c = begun t c .pre .1 .steps .each _ (below t c)
 
 left : (t : ℕ) (c : search-there search-lts.After-table-at t)
-    → LeftIn (begun t (message t c) .args .p .now) (begun t (message t c) .args .at) (begun t (message t c) .args .plan) (begun t (message t c) .args .at)
-    (c .before .before .loop2 .r) (getD (begun t (message t c) .args .table .now) (c .table-at .result) 0)
-left t c =
-    let old = message t c in
-    let asked = begun t old .args in
-    let r = c .before .before .loop2 .r in
-    subst (λ (k : ℕ). LeftIn (asked .p .now) (asked .at) (asked .plan) (asked .at) r (getD (asked .table .now) k 0)) (sym (c .table-at .ensures .0))
-    (begun t old .pre .1 .leaves .each (asked .at) r (omega arith) (below t old) (omega (arith, often t old .is, c .before .loop2-test .taken)))
+    → let asked = begun t (message t c) .args in getD (asked .table .now) (c .table-at .result) 0 ≡ getD (asked .table .now) (tableAt (asked .at) (c .before .before .loop2 .r)) 0
+left t c = ap (λ (k : ℕ). getD (begun t (message t c) .args .table .now) k 0) (c .table-at .ensures .0)
 
 -- the messages behind it
 behind : (t : ℕ) (c : search-there search-lts.Else1 t) {k l : ℕ} → From k (c .before .messages-of .result) l → From k (messages (begun t c .args .p .now)) l
 behind t c F = from-all (omega (arith, c .before .messages-of .ensures .0)) F
 
 search-returns : search-asks search-lts.Need-returns
-search-returns t c = whole _ _ _ (omega arith) (c .before .before .before .pre .1 .stands)
+search-returns t c = all-fit (omega arith) (c .before .before .before .pre .1 .stands)
 
 search-has-room-requires : search-asks search-lts.Need-has-room-requires
 search-has-room-requires t c κs = let asked = c .before .before .before .before .before .before .before .pre .1 in (asked .few, asked .steps)
@@ -147,9 +142,8 @@ search-has-room-requires t c κs = let asked = c .before .before .before .before
 search-returns-2 : search-asks search-lts.Need-returns-2
 search-returns-2 t c =
     let old = c .before .before .before .before .before .before in
-    let asked = begun t old .pre .1 in
     let others = behind t old (c .before .before .before .before .before .unplaced .ensures) in
-    no-room (asked .within) (asked .leaves) others (c .before .has-room .ensures) (not-true _ (c .if3 .taken))
+    no-room others (c .before .has-room .ensures) (not-true _ (c .if3 .taken))
 
 search-element-copy-out-step : search-asks search-lts.Need-element-copy-out-step
 search-element-copy-out-step t c = few t (c .before .before .before .before)
@@ -187,8 +181,8 @@ search-search-requires t c κs =
         few = asked .few;
         steps = asked .steps;
         within = omega (arith, below t old);
-        stands = put-stands _ _ _ _ _ (room t old) (put .placed .ensures) (asked .stands) (left t at) inside;
-        leaves = leaves-more _ _ _ _ _ (room t old) (asked .few) (put .placed .ensures) others (asked .leaves) (put .before .beside .ensures .0);
+        stands = put-stands _ _ _ _ _ (room t old) (put .placed .ensures) (below t old) (omega (arith, often t old .is, at .before .loop2-test .taken)) (asked .stands) (asked .leaves) (left t at) inside;
+        leaves = leaves-more _ _ _ _ _ (room t old) (put .placed .ensures) others (asked .leaves) (put .before .beside .ensures .0);
       },
     )
 
@@ -197,27 +191,38 @@ search-returns-3 t c =
     let put = c .before .before .before .before .before .before in
     let at = place t put in
     let old = message t at in
+    let test = put .before .before .before in
+    let inside = eqb-true _ _ (sym (test .before .has-bit .ensures) ∙ test .if4 .taken) in
+    let others = behind t old (at .before .before .before .before .before .before .before .unplaced2 .ensures) in
     let yes : c .before .search .result .found ≡ true = c .if5 .taken in
-    rw yes (found _ _ _ _ _ (below t old) (room t old) (put .placed .ensures) (rw yes at (c .before .search .ensures)) (at .before .before .loop2 .inv .0))
+    rw yes
+    (found-there _ _ _ _ _ _ (below t old) (left t at) (at .before .before .loop2 .inv .0) (begun t old .pre .1 .few) (room t old) (put .placed .ensures) others (put .before .beside .ensures .0)
+    inside (rw yes at (c .before .search .ensures)))
 
 search-loop2-again : search-asks search-lts.Need-loop2-again
 search-loop2-again t c =
     let at = c .before .before .before in
     let old = message t at in
     let inv = at .before .before .loop2 .inv in
+    let others = behind t old (at .before .before .before .before .before .before .before .unplaced2 .ensures) in
     ⊎-elim
-    (λ w. (gone-tried _ _ _ _ _ (room t old) (w .3 .ensures) (rw (w .9 .left) at (w .8 .ensures)) (inv .0), rw (w .11) (w .2 .ensures .1)))
-    (λ w. (gone-closed _ _ _ _ _ (below t old) (room t old) (left t at) (eqb-false _ _ (sym (c .before .has-bit .ensures) ∙ w .0 .left)) (inv .0), rw (w .2) (inv .1)))
+    (λ w. (
+      gone-tried _ _ _ _ _ _ (below t old) (left t at) (inv .0) (begun t old .pre .1 .few) (room t old) (w .3 .ensures) others (w .2 .ensures .0) (rw (w .9 .left) at (w .8 .ensures)),
+      rw (w .11) (w .2 .ensures .1),
+    ))
+    (λ w. (gone-closed _ _ _ _ _ _ (below t old) (left t at) (inv .0) (eqb-false _ _ (sym (c .before .has-bit .ensures) ∙ w .0 .left)), rw (w .2) (inv .1)))
     (c .if4 .came)
 
 search-loop-again : search-asks search-lts.Need-loop-again
 search-loop-again t c =
     let inv = c .before .loop2 .inv in
     let old = c .before .before .before .before .before .before .before .before .before in
-    (gone-column _ _ _ _ (c .before .loop2 .r) (omega arith) (omega (arith, often t old .is)) (inv .0), inv .1)
+    (gone-column _ _ _ _ (c .before .loop2 .r) _ (λ w W. stands (W .stands) _ (below t old) .row-below) (omega (arith, often t old .is)) (inv .0), inv .1)
 
 search-returns-4 : search-asks search-lts.Need-returns-4
-search-returns-4 t c = gone-all _ _ _ (c .before .loop .c) (omega arith) (omega arith) (c .before .loop .inv .0)
+search-returns-4 t c =
+    let old = c .before .before .before .before .before .before .before in
+    gone-all _ _ _ (c .before .loop .c) _ (λ w W. stands (W .stands) _ (below t old) .column-below) (omega arith) (c .before .loop .inv .0)
 
 pub +search-spec : {M : Type 1} → statement M
 +search-spec =

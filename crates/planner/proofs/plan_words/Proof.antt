@@ -1,23 +1,24 @@
 -- The refusals in the order of document 01, and then what the search says. What it finds is as long as the plan that it began with: a proposal's words
 -- are its first.
 use Prim.Native.Nat.{_≤_}
-use mathlib.Core.Path.{refl, sym}
+use mathlib.Core.Path.{sym}
 use native.Mathlib.Omega.{arith}
 use borrow.Author.Tests.{not-true, not-false}
 use borrow.Author.Needs.{needs}
-use lib.ListN.{length, replicate}
+use lib.ListN.{length}
 use lib.Seq.{length-take-le}
-use Rattle.rules.specs.Problem.{proposalWords}
+use Rattle.rules.specs.Problem.{messages, proposalWords}
+use Rattle.rules.specs.Tests.{Stand}
 use Rattle.places.specs.Places.{Few}
-use Rattle.planner.specs.Search.{planWords, Best}
-use Rattle.planner.proofs.Room.{leaves-all}
+use Rattle.planner.specs.Search.{unplanned, Best}
+use Rattle.planner.proofs.Room.{best-all, nowhere-all}
 use Rattle.planner.proofs.Promise.{too-many, too-short, not-found, is-found}
 use Rattle.planner.proofs.plan_words.Statement.{statement}
 use Rattle.planner.proofs.plan_words.Tie as tie
 
 -- from what the search answered back to where there is room for a proposal, and from there back to the call's start
-abbrev ready : tie.After-search → tie.Else2
-ready c = c .before .before .before .before .before .before .before
+abbrev ready : tie.After-plan-around → tie.Else2
+ready c = c .before .before
 
 abbrev begun : tie.Else2 → tie.Start
 begun c = c .before .before .before .before .before .before
@@ -35,33 +36,24 @@ returns c = too-many _ _ (omega arith)
 returns-2 : tie.Need-returns-2
 returns-2 c = too-short _ _ (omega arith) (omega arith)
 
-allowed-requires : tie.Need-allowed-requires
-allowed-requires c κs = (few (c .before), refl)
-
-steps-of-requires : tie.Need-steps-of-requires
-steps-of-requires c κs = few (c .before .before)
-
-search-requires : tie.Need-search-requires
-search-requires c κs =
-    record {
-      few = few (c .before .before .before .before .before .before);
-      steps = c .before .before .before .steps-of .ensures;
-      within = omega arith;
-      stands = record { each = λ j l. absurd (omega arith) };
-      leaves = leaves-all _ (c .before .before .before .before .allowed .ensures);
-    }
+plan-around-requires : tie.Need-plan-around-requires
+plan-around-requires c κs = few (c .before)
 
 returns-3 : tie.Need-returns-3
 returns-3 c =
     let searched = c .before .before in
     let at = ready searched in
-    not-found _ _ (few at .most) (room at) (few at .formed) (rw (not-true (searched .search .result .found) (c .if3 .taken)) at (searched .search .ensures))
+    not-found _ _ (few at .most) (room at) (few at .formed)
+    (nowhere-all (few at .formed) (rw (not-true (searched .plan-around .result .found) (c .if3 .taken)) at (searched .plan-around .ensures)))
 
 -- what was found, where something was, and that it has a proposal's words
-best : (c : tie.Else3) → Best (begun (ready (c .before .before)) .args .p .now) 0 (replicate planWords 0) (c .before .before .search .result .plan)
-best c = rw (not-false (c .before .before .search .result .found) (c .if3 .left)) at (c .before .before .search .ensures)
+best : (c : tie.Else3)
+    → let p = begun (ready (c .before .before)) .args .p .now in Best (Stand p (messages p)) (messages p) 0 unplanned (c .before .before .plan-around .result .plan)
+best c =
+    let searched = c .before .before in
+    best-all (few (ready searched) .formed) (rw (not-false (searched .plan-around .result .found) (c .if3 .left)) at (searched .plan-around .ensures))
 
-long : (c : tie.Else3) → ready (c .before .before) .before .proposal-words .result ≤ length (c .before .before .search .result .plan)
+long : (c : tie.Else3) → ready (c .before .before) .before .proposal-words .result ≤ length (c .before .before .plan-around .result .plan)
 long c = omega (arith, best c .long)
 
 array-share-prefix-plan : tie.Need-array-share-prefix-plan
@@ -70,12 +62,12 @@ array-share-prefix-plan c = omega (arith, long (c .before))
 slice-aggregate-copy-words : tie.Need-slice-aggregate-copy-words
 slice-aggregate-copy-words c =
     let found = c .before .before in
-    sym (length-take-le _ (found .before .before .search .result .plan) (omega (arith, long found)))
+    sym (length-take-le _ (found .before .before .plan-around .result .plan) (omega (arith, long found)))
 
 copy-words-requires : tie.Need-copy-words-requires
 copy-words-requires c κs =
     let found = c .before .before .before in
-    omega (arith, length-take-le _ (found .before .before .search .result .plan) (long found))
+    omega (arith, length-take-le _ (found .before .before .plan-around .result .plan) (long found))
 
 returns-4 : tie.Need-returns-4
 returns-4 c =
@@ -92,9 +84,7 @@ plan-words-spec =
     returns
     (λ c κs. search needs)
     returns-2
-    allowed-requires
-    steps-of-requires
-    search-requires
+    plan-around-requires
     returns-3
     array-share-prefix-plan
     slice-aggregate-copy-words
