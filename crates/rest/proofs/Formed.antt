@@ -95,12 +95,19 @@ module _ {p m : List ℕ} {n : ℕ} (N : Numbers p m n) where
           deadline-most = omega (arith, h .deadline-most);
         }
 
+    -- what message s adds to the triggers of node k
+    terms-same : (k s : ℕ) → s < n
+        → only (sends q k s) 1 + only (receives q k s) 1 ≡ only (sends p k (getD m s 0)) 1 + only (receives p k (getD m s 0)) 1
+    terms-same k s l =
+        let f : ℕ → ℕ → ℕ = λ x y. only (eqb x k) 1 + only (eqb (bit y k) 1) 1 in
+        ap₂ f (part-field P s 1 l (omega arith)) (part-field P s 3 l (omega arith))
+
     triggers-formed : (k : ℕ) → k < nodes → triggers q k ≤ limit q
     unfolding triggers
     triggers-formed k l =
         let f : ℕ → ℕ = λ j. only (sends p k j) 1 + only (receives p k j) 1 in
         let g : ℕ → ℕ = λ s. only (sends q k s) 1 + only (receives q k s) 1 in
-        let same : sum n g ≡ sum n (λ s. f (getD m s 0)) = sum-same n g (λ s. f (getD m s 0)) (λ s h. ap₂ (λ (x y : ℕ). only (eqb x k) 1 + only (eqb (bit y k) 1) 1) (part-field P s 1 h (omega arith)) (part-field P s 3 h (omega arith))) in
+        let same = sum-same n g (λ s. f (getD m s 0)) (terms-same k) in
         let all : sum (messages q) g ≡ sum n g = ap (λ (x : ℕ). sum x g) (P .count) in
         omega (arith, all, same, sum-some f, wf .triggers-most k l, part-header P 4 (omega arith))
 

@@ -1,2 +1,5 @@
 pub mod Same
 pub mod Formed
+mod Walk
+mod Copying
+mod Joining

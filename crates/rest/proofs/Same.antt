@@ -1,13 +1,13 @@
 -- Some messages as a problem of their own have the same matrix, and each the same words, repeat and tests as before.
-use Prim.Native.Nat.{ℕ, _+_, _*_, _-_, _/_, _%_, _<_, _≤_, min}
+use Prim.Native.Nat.{ℕ, _+_, _*_, _-_, _/_, _%_, _<_, min}
 use mathlib.Core.Path.{_≡_, sym, ap, ap₂, _∙_}
 use mathlib.Core.List.{List}
 use native.Mathlib.Omega.{arith}
 use lib.ListN.{getD}
 use Rattle.rules.specs.declared.Fault.the-variants.{Clear}
-use Rattle.rules.specs.Problem.{rows, cycle, columns, columnAt, messageAt, start, width, field, frame, lasts, repeat, column, row}
+use Rattle.rules.specs.Problem.{rows, cycle, columns, columnAt, messageAt, start, field, frame, lasts, repeat, column, row}
 use Rattle.rules.specs.Tests.{wait, common, ownFault}
-use Rattle.rules.proofs.Meaning.{Alone, own-alone, alone-own, Meets}
+use Rattle.rules.proofs.Meaning.{own-alone, alone-own, Meets}
 use Rattle.rest.specs.Part.{countAt, messageWords, Part}
 
 -- a wait by the words that it goes by

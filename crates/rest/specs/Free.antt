@@ -1,7 +1,7 @@
 -- The messages without a kept placement: how many they are, and which, in file order.
 use Prim.Native.Nat.{ℕ, _<_}
 use mathlib.Core.Path.{_≡_}
-use mathlib.Core.Bool.{true, false, not}
+use mathlib.Core.Bool.{false, not}
 use mathlib.Core.List.{List}
 use lib.ListN.{getD}
 use Rattle.basics.specs.Sums.{sum, only}
