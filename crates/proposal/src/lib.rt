@@ -1,28 +1,68 @@
-// What is wrong with a proposal: judge, lists and logs all test it so.
+// What is wrong with a proposal, which judge, lists and logs all test so, and with placements to keep.
 use reader::Read;
 use rules::Fault;
 use rules::Refusal;
 use rules::placing;
 use rules::words;
 ghost use mathlib.Core.Path.{_≡_};
+ghost use mathlib.Core.Bool.{true};
 ghost use Prim.Native.Nat.{_≤_};
 ghost use lib.ListN.{length};
-ghost use Rattle.rules.specs.Problem.{WellFormed, mostWords, messages as messageCount, proposalWords};
+ghost use Rattle.basics.specs.Tests.{some};
+ghost use Rattle.rules.specs.Parts.{Member};
+ghost use Rattle.rules.specs.Problem.{WellFormed, mostWords, messages as messageCount, proposalWords, Gives};
 ghost use Rattle.rules.specs.Refusal.{firstFault};
-ghost use Rattle.rules.specs.Tests.{fault as faultOf, proposalFault};
+ghost use Rattle.rules.specs.Tests.{meets, proposalFault};
+ghost use Rattle.row_words.specs.RowWords.{RowWords};
 ghost use Rattle.proposal.specs.Accept.{Tested};
+ghost use Rattle.proposal.specs.Partial.{LowestMet, looked, faultIn, Walked, KeptTested};
+
+// Whether message j is tested: of a list that may leave messages out only those that it keeps.
+fn looks_at(partial: bool, w: &[u32], j: usize) -> bool
+    requires { ⌜ Gives (now w) j ⌝ }
+    ensures { λ b. ⌜ b ≡ looked partial (now (w .entry)) j ⌝ }
+{
+    if partial {
+        return kept::keeps(w, j);
+    }
+    true
+}
+
+// The lowest earlier message that message j meets, where it meets one.
+fn lowest_met(p: &[u32], w: &[u32], j: usize) -> usize
+    requires { ⌜ Member (now p) j × (length (now w) ≡ proposalWords (now p)) ⌝ }
+    requires { ⌜ some j (λ i. meets (now p) (now w) i j) ≡ true ⌝ }
+    ensures { λ i. ⌜ LowestMet (now (p .entry)) (now (w .entry)) j i ⌝ }
+{
+    let mut i: usize = 0;
+    while !placing::do_meet(p, w, i, j) {
+        i += 1;
+    }
+    i
+}
 
 // The first message with a fault, and at it the lowest number; of a meeting also the lowest earlier message, which is looked up only where a cell is found taken.
-fn first_fault(p: &[u32], w: &[u32], messages: usize) -> Fault
+// The row words are those of no message at the start, and of all where there is no fault.
+fn first_fault(
+    p: &[u32],
+    w: &[u32],
+    messages: usize,
+    partial: bool,
+    taken: &mut [u32; words::MOST_ROWS],
+) -> Fault
     requires { ⌜ WellFormed (now p) × (messages ≡ messageCount (now p)) × (length (now w) ≡ proposalWords (now p)) ⌝ }
-    ensures { λ f. ⌜ f ≡ firstFault messages (faultOf (now (p .entry)) (now (w .entry))) ⌝ }
+    requires { ⌜ RowWords (now p) (now w) 0 (now taken) ⌝ }
+    ensures { λ f. ⌜ Walked (firstFault messages (faultIn partial (now (p .entry)) (now (w .entry)))) (now (p .entry)) (now (w .entry)) (now (taken .exit)) f ⌝ }
 {
     let rows = words::rows_of(p);
-    let mut taken = [0u32; words::MOST_ROWS];
     let mut j: usize = 0;
     let fault = 'faults: loop {
         if messages <= j {
             break 'faults Fault::Clear;
+        }
+        if !looks_at(partial, w, j) {
+            j += 1;
+            continue;
         }
         let c = words::column_of(w, j);
         let r = words::row_of(w, j);
@@ -31,14 +71,9 @@ fn first_fault(p: &[u32], w: &[u32], messages: usize) -> Fault
         if let Fault::Bad(q) = own {
             break 'faults Fault::Bad(q);
         }
-        if row_words::occupy(&mut taken, rows, step, c, r) {
-            let mut i: usize = 0;
-            loop {
-                if placing::do_meet(p, w, i, j) {
-                    break 'faults Fault::Bad(Refusal::Meeting(j as u32, i as u32));
-                }
-                i += 1;
-            }
+        if row_words::occupy(taken, rows, step, c, r) {
+            let i = lowest_met(p, w, j);
+            break 'faults Fault::Bad(Refusal::Meeting(j as u32, i as u32));
         }
         j += 1;
     };
@@ -53,7 +88,19 @@ fn proposal_fault(p: &[u32], w: &[u32]) -> Fault
     if w.len() != words::proposal_words(p) {
         return Fault::Bad(Refusal::ProposalLength);
     }
-    first_fault(p, w, words::messages_of(p))
+    let mut taken = [0u32; words::MOST_ROWS];
+    first_fault(p, w, words::messages_of(p), false, &mut taken)
+}
+
+// What is wrong with placements to keep for a well-formed problem. Where nothing is, the words that were all 0 are the row words of the kept messages.
+pub fn kept_fault(p: &[u32], k: &[u32], taken: &mut [u32; words::MOST_ROWS]) -> Fault
+    requires { ⌜ WellFormed (now p) × RowWords (now p) (now k) 0 (now taken) ⌝ }
+    ensures { λ f. ⌜ KeptTested (now (p .entry)) (now (k .entry)) (now (taken .exit)) f ⌝ }
+{
+    if k.len() != words::proposal_words(p) {
+        return Fault::Bad(Refusal::ProposalLength);
+    }
+    first_fault(p, k, words::messages_of(p), true, taken)
 }
 
 // Reads the problem into a buffer that is large enough for any, passes its refusal on, and tests the proposal.

@@ -1,5 +1,5 @@
 -- The row words, message by message: each marks its cells, and finds one of them set exactly where it meets an earlier one.
-use Prim.Native.Nat.{ℕ, _+_, _*_, _≤_, _<_}
+use Prim.Native.Nat.{ℕ, _+_, _*_, _<_}
 use mathlib.Core.Path.{_≡_, refl, sym, _∙_}
 use mathlib.Core.Bool.{Bool, true, false}
 use mathlib.Core.List.{List}
@@ -18,7 +18,7 @@ use Rattle.rules.specs.Problem.{mostRows, rows, repeat, column, row, WellFormed
 use Rattle.rules.specs.Tests.{meets}
 use Rattle.rules.proofs.Bounds.{member, repeat-least}
 use Rattle.rules.proofs.Cells.{cell-meets, meets-cell}
-use Rattle.rules.proofs.Meaning.{meets-is, is-meets}
+use Rattle.rules.proofs.Meaning.{Meets, meets-is, is-meets}
 use Rattle.row_words.specs.RowWords.{Taken, RowWords, Occupied}
 
 -- no message has taken anything
@@ -66,9 +66,9 @@ module _ {p w t t′ : List ℕ} {j : ℕ} {b : Bool} (m : Member p j) (g : RowW
           own : Here p w j i c → Has (getD t′ i 0) c
           own h = rw (← h .same-row, ← h .same-column) (o .marked .here (h .turn) (omega (arith, h .same-row)) .here)
 
-  -- the theorem: it found one of its cells set exactly where it meets an earlier message
-  pub tells-meeting : ((k : ℕ) → k ≤ j → Placed p k (column w k) (row w k)) → b ≡ some j (λ k. meets p w k j)
-  tells-meeting placed = go b refl
+  -- the theorem: it found one of its cells set exactly where it meets an earlier message, if it has its place, and so has each that it meets
+  pub tells-meeting : Placed p j (column w j) (row w j) → ((k : ℕ) → k < j → Meets p w k j → Placed p k (column w k) (row w k)) → b ≡ some j (λ k. meets p w k j)
+  tells-meeting own placed = go b refl
     where
       earlier : (k : ℕ) → k < j → Member p k
       earlier k l = member (m .formed) (omega (arith, m .below))
@@ -81,7 +81,8 @@ module _ {p w t t′ : List ℕ} {j : ℕ} {b : Bool} (m : Member p j) (g : RowW
           sym (some-on j (k .by) (λ k. meets p w k j) (k .among) (T-true _ (is-meets p w (k .by) j met)))
       go false e =
           sym (some-off j (λ k. meets p w k j) (λ k l. never (meets p w k j) (λ h.
-          let c = meets-cell (earlier k l) m (placed k (omega arith)) (placed j (omega arith)) (meets-is p w k j (true-T h)) in
+          let met = meets-is p w k j (true-T h) in
+          let c = meets-cell (earlier k l) m (placed k l met) own met in
           let set = g .each (c .at-row) (column w j) (c .low) .1 record { by = k; among = l; here = c .first } in
           let found = o .before .1 record { turn = c .second .turn; low = omega (arith, c .low, c .second .same-row); set = rw (c .second .same-row) set } in
           not-both found e)))
