@@ -1,3 +1,4 @@
 pub mod Walk
 pub mod Accepting
 pub mod Sound
+pub mod KeptMet

@@ -17,7 +17,7 @@ use Rattle.rules.specs.declared.Refusal.the-variants.{ProposalLength, Meeting}
 use Rattle.rules.specs.declared.Fault.{Fault}
 use Rattle.rules.specs.declared.Fault.the-variants.{Clear, Bad}
 use Rattle.rules.specs.Parts.{Member}
-use Rattle.rules.specs.Problem.{rows, messages, repeat, proposalWords, column, row, WellFormed, Placed}
+use Rattle.rules.specs.Problem.{rows, columns, messages, repeat, proposalWords, column, row, WellFormed, Placed}
 use Rattle.rules.specs.Refusal.{guard, _⊕_, firstFault}
 use Rattle.rules.specs.Tests.{meets, ownFault, meetingFault, fault, proposalFault}
 use Rattle.rules.proofs.Faults.{bad-not-clear, first-clear, first-at, first-same}
@@ -26,7 +26,8 @@ use Rattle.kept.specs.Kept.{keeps}
 use Rattle.kept.proofs.Nobody.{none-column, none-row}
 use Rattle.row_words.specs.RowWords.{Taken, RowWords, Occupied}
 use Rattle.row_words.proofs.Taking.{tells-meeting, words-more}
-use Rattle.proposal.specs.Partial.{LowestMet, looked, faultIn, keptFault, Walked}
+use Rattle.proposal.specs.Lowest.{LowestMet}
+use Rattle.proposal.specs.Partial.{looked, faultIn, keptFault, Walked}
 
 -- ---- the earlier messages, where one of them meets message j
 -- messages 0 to i - 1 do not
@@ -60,12 +61,20 @@ module _ (partial : Bool) (p w : List ℕ) (j : ℕ) where
   unfolding faultIn
   unlooked-clear e = rw e
 
--- a message that is not is not kept
+-- one that is not looked at is not kept
 pub unlooked-kept : (partial : Bool) (w : List ℕ) (j : ℕ) → looked partial w j ≡ false → keeps w j ≡ false
 unlooked-kept true w j e = e
 unlooked-kept false w j e = not-both refl e
 
--- and has no cell of the matrix, so that the row words say of it what they said before it
+-- so it stands in no column of the matrix: whoever stands in one is looked at
+pub column-looked : (partial : Bool) (w : List ℕ) (k : ℕ) {p : List ℕ} {c : ℕ} → WellFormed p → c < columns p → column w k ≡ c → looked partial w k ≡ true
+column-looked partial w k wf l e =
+    ⊎-elim
+    (λ y. y)
+    (λ n. absurd (omega (arith, none-column w k (unlooked-kept partial w k n), e, l, wf .header .columns-most)))
+    (true-or (looked partial w k))
+
+-- a message that is not kept has no cell of the matrix: the row words before it are those behind it too
 pub words-skip : {p w t : List ℕ} {j : ℕ} → WellFormed p → keeps w j ≡ false → RowWords p w j t → RowWords p w (j + 1) t
 words-skip {p} {w} {t} {j} wf n g = record {
   long = g .long;
@@ -118,13 +127,11 @@ module _ {partial : Bool} {p w t t′ : List ℕ} {j : ℕ} {b : Bool} (u : Turn
   placed : Placed p j (column w j) (row w j)
   placed = own-alone p j (column w j) (row w j) (u .own) .placed
 
-  -- an earlier message that it meets stands in its column, which is one of the matrix: so it is looked at and has its place
+  -- an earlier message that it meets stands in its column, so that it is looked at and has its place
   met-placed : (k : ℕ) → k < j → Meets p w k j → Placed p k (column w k) (row w k)
   met-placed k l m =
-      ⊎-elim
-      (λ e. fault-sound p w k (sym (looked-fault partial p w k e) ∙ u .before .each k l) .alone .placed)
-      (λ e. absurd (omega (arith, none-column w k (unlooked-kept partial w k e), m .one-column, placed .column-below, u .member .formed .header .columns-most)))
-      (true-or (looked partial w k))
+      let seen = column-looked partial w k (u .member .formed) (placed .column-below) (m .one-column) in
+      fault-sound p w k (sym (looked-fault partial p w k seen) ∙ u .before .each k l) .alone .placed
 
   -- so it found a cell taken exactly where it meets an earlier message
   pub tells : b ≡ some j (λ k. meets p w k j)

@@ -1,3 +1,4 @@
 pub mod Accepted
 pub mod Accept
+pub mod Lowest
 pub mod Partial

@@ -1,5 +1,5 @@
 -- What is wrong with placements to keep: only the messages that the list keeps are tested, among themselves.
-use Prim.Native.Nat.{ℕ, _<_}
+use Prim.Native.Nat.{ℕ}
 use mathlib.Core.Path.{_≡_}
 use mathlib.Core.Bool.{Bool, true, false, not}
 use mathlib.Core.List.{List}
@@ -10,15 +10,9 @@ use Rattle.rules.specs.declared.Fault.the-variants.{Clear}
 use Rattle.rules.specs.declared.Refusal.the-variants.{ProposalLength}
 use Rattle.rules.specs.Problem.{messages, proposalWords}
 use Rattle.rules.specs.Refusal.{guard, _⊕_, firstFault}
-use Rattle.rules.specs.Tests.{meets, fault}
+use Rattle.rules.specs.Tests.{fault}
 use Rattle.kept.specs.Kept.{keeps}
 use Rattle.row_words.specs.RowWords.{RowWords}
-
--- i is the lowest of the earlier messages that message j meets
-pub record LowestMet (p w : List ℕ) (j i : ℕ) : Type 0 where
-  pub earlier : i < j
-  pub meet : meets p w i j ≡ true
-  pub none-before : (k : ℕ) → k < i → meets p w k j ≡ false
 
 -- the fault of a message that is tested
 abbrev pub tested : Bool → Fault → Fault
@@ -30,6 +24,7 @@ abbrev pub looked : Bool → List ℕ → ℕ → Bool
 looked true w j = keeps w j
 looked false w j = true
 
+-- the fault that a test of the list w finds with message j
 unfoldable pub faultIn : Bool → List ℕ → List ℕ → ℕ → Fault
 faultIn partial p w j = tested (looked partial w j) (fault p w j)
 

@@ -15,7 +15,8 @@ ghost use Rattle.rules.specs.Refusal.{firstFault};
 ghost use Rattle.rules.specs.Tests.{meets, proposalFault};
 ghost use Rattle.row_words.specs.RowWords.{RowWords};
 ghost use Rattle.proposal.specs.Accept.{Tested};
-ghost use Rattle.proposal.specs.Partial.{LowestMet, looked, faultIn, Walked, KeptTested};
+ghost use Rattle.proposal.specs.Lowest.{LowestMet};
+ghost use Rattle.proposal.specs.Partial.{looked, faultIn, Walked, KeptTested};
 
 // Whether message j is tested: of a list that may leave messages out only those that it keeps.
 fn looks_at(partial: bool, w: &[u32], j: usize) -> bool
