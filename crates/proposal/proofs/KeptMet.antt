@@ -19,7 +19,6 @@ use Rattle.rules.specs.Tests.{inRange, fits, timely, meets, ownFault, meetingFa
 use Rattle.rules.proofs.Faults.{bad-not-clear, clear-both, clear-guard, clear-test, bad-guard, bad-either, first-clear, clear-first, first-same, bad-first}
 use Rattle.rules.proofs.Meaning.{own-alone, meets-is}
 use Rattle.kept.specs.Kept.{keeps}
-use Rattle.proposal.specs.Lowest.{LowestMet}
 use Rattle.proposal.specs.Partial.{faultIn, keptFault}
 use Rattle.proposal.proofs.Walk.{looked-fault, unlooked-clear, column-looked}
 
@@ -43,8 +42,10 @@ pub record KeptMet (p k : List ℕ) (j i : ℕ) : Type 0 where
   pub among : j < messages p
   pub later-kept : keeps k j ≡ true
   pub earlier-kept : keeps k i ≡ true
-  pub lowest : LowestMet p k j i
   pub before : (l : ℕ) → l < j → keeps k l ≡ true → fault p k l ≡ Clear
+  pub earlier : i < j
+  pub meet : meets p k i j ≡ true
+  pub lowest : (l : ℕ) → l < i → meets p k l j ≡ false
 
 named : {p k : List ℕ} {j i l h : ℕ} → Meeting j i ≡ Meeting l h → KeptMet p k l h → KeptMet p k j i
 named {j = j} {i = i} {l = l} {h = h} e m = let ej : j ≡ l = cc in let ei : i ≡ h = cc in rw (ej, ei) m
@@ -68,8 +69,10 @@ module _ (p k : List ℕ) {j i : ℕ} where
               among = below;
               later-kept = kept;
               earlier-kept = column-looked true k (g .at) wf (placed .column-below) (meets-is p k (g .at) l (true-T (h .0)) .one-column);
-              lowest = record { earlier = g .below; meet = h .0; none-before = λ m n. clear-guard _ _ (g .before m n) };
               before = λ m n o. sym (looked-fault true p k m o) ∙ before m n;
+              earlier = g .below;
+              meet = h .0;
+              lowest = λ m n. clear-guard _ _ (g .before m n);
             }
       ]
 

@@ -26,7 +26,6 @@ use Rattle.kept.specs.Kept.{keeps}
 use Rattle.kept.proofs.Nobody.{none-column, none-row}
 use Rattle.row_words.specs.RowWords.{Taken, RowWords, Occupied}
 use Rattle.row_words.proofs.Taking.{tells-meeting, words-more}
-use Rattle.proposal.specs.Lowest.{LowestMet}
 use Rattle.proposal.specs.Partial.{looked, faultIn, keptFault, Walked}
 
 -- ---- the earlier messages, where one of them meets message j
@@ -46,10 +45,6 @@ sought {p} {w} {i} {j} h n =
     let k = some-at j (λ k. meets p w k j) h in
     let least : ¬ (k .0 < i) = λ l. not-both (k .2) (n .none (k .0) l) in
     omega (arith, k .1)
-
--- and if it meets j, it is the lowest
-pub lowest : {p w : List ℕ} {i j : ℕ} {b : Bool} → i < j → Unmet p w i j → b ≡ meets p w i j → b ≡ true → LowestMet p w j i
-lowest l n e h = record { earlier = l; meet = sym e ∙ h; none-before = n .none }
 
 -- ---- which messages are looked at
 module _ (partial : Bool) (p w : List ℕ) (j : ℕ) where
@@ -76,7 +71,7 @@ column-looked partial w k wf l e =
 
 -- a message that is not kept has no cell of the matrix: the row words before it are those behind it too
 pub words-skip : {p w t : List ℕ} {j : ℕ} → WellFormed p → keeps w j ≡ false → RowWords p w j t → RowWords p w (j + 1) t
-words-skip {p} {w} {t} {j} wf n g = record {
+words-skip {p} {w} {j = j} wf n g = record {
   long = g .long;
   each = λ i c li. (
     λ h. let k = g .each i c li .0 h in record { by = k .by; among = omega (arith, k .among); here = k .here },
@@ -164,12 +159,12 @@ module _ {partial : Bool} {p w t : List ℕ} {j m : ℕ} (a : Passed partial p w
   own-first l k e h = first-here l k (rw (← e .is, h))
 
   -- of a meeting the lowest earlier message is named
-  pub met-first : {i : ℕ} → j < m → looked partial w j ≡ true → ownFault p j (column w j) (row w j) ≡ Clear → LowestMet p w j i
+  pub met-first : {i : ℕ} {b : Bool} → j < m → looked partial w j ≡ true → ownFault p j (column w j) (row w j) ≡ Clear → Unmet p w i j → i < j → b ≡ meets p w i j → b ≡ true
       → Walked (firstFault m (faultIn partial p w)) p w t (Bad (Meeting j i))
   unfolding fault meetingFault
-  met-first {i} l k own n =
-      let named = first-at j (λ k. guard (meets p w k j) (Meeting j k)) i (Meeting j i) (n .earlier) (λ g h. rw (n .none-before g h)) (rw (n .meet)) in
-      first-here l k (rw own named)
+  met-first {i} l k own n h e met =
+      let lowest = first-at j (λ k. guard (meets p w k j) (Meeting j k)) i (Meeting j i) h (λ g h. rw (n .none g h)) (rw (← e, met)) in
+      first-here l k (rw own lowest)
 
 -- ---- the number of words comes first
 module _ (p w : List ℕ) {n : ℕ} (en : n ≡ proposalWords p) where
@@ -186,7 +181,7 @@ module _ (p w : List ℕ) {n : ℕ} (en : n ≡ proposalWords p) where
 
   pub right-proposal : {t : List ℕ} {f : Fault} {m : ℕ} → length w ≡ n → m ≡ messages p → Walked (firstFault m (faultIn false p w)) p w t f → f ≡ proposalFault p w
   unfolding proposalFault
-  right-proposal {m = m} h em d =
+  right-proposal h em d =
       (rw em at (d .is)) ∙ first-same (messages p) (faultIn false p w) (fault p w) (λ k l. looked-fault false p w k refl) ∙ right-length h _
 
   -- of placements to keep those that are kept

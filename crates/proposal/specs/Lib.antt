@@ -1,4 +1,3 @@
 pub mod Accepted
 pub mod Accept
-pub mod Lowest
 pub mod Partial

@@ -5,17 +5,13 @@ use rules::Refusal;
 use rules::placing;
 use rules::words;
 ghost use mathlib.Core.Path.{_≡_};
-ghost use mathlib.Core.Bool.{true};
 ghost use Prim.Native.Nat.{_≤_};
 ghost use lib.ListN.{length};
-ghost use Rattle.basics.specs.Tests.{some};
-ghost use Rattle.rules.specs.Parts.{Member};
 ghost use Rattle.rules.specs.Problem.{WellFormed, mostWords, messages as messageCount, proposalWords, Gives};
 ghost use Rattle.rules.specs.Refusal.{firstFault};
-ghost use Rattle.rules.specs.Tests.{meets, proposalFault};
+ghost use Rattle.rules.specs.Tests.{proposalFault};
 ghost use Rattle.row_words.specs.RowWords.{RowWords};
 ghost use Rattle.proposal.specs.Accept.{Tested};
-ghost use Rattle.proposal.specs.Lowest.{LowestMet};
 ghost use Rattle.proposal.specs.Partial.{looked, faultIn, Walked, KeptTested};
 
 // Whether message j is tested: of a list that may leave messages out only those that it keeps.
@@ -29,19 +25,6 @@ fn looks_at(partial: bool, w: &[u32], j: usize) -> bool
     true
 }
 
-// The lowest earlier message that message j meets, where it meets one.
-fn lowest_met(p: &[u32], w: &[u32], j: usize) -> usize
-    requires { ⌜ Member (now p) j × (length (now w) ≡ proposalWords (now p)) ⌝ }
-    requires { ⌜ some j (λ i. meets (now p) (now w) i j) ≡ true ⌝ }
-    ensures { λ i. ⌜ LowestMet (now (p .entry)) (now (w .entry)) j i ⌝ }
-{
-    let mut i: usize = 0;
-    while !placing::do_meet(p, w, i, j) {
-        i += 1;
-    }
-    i
-}
-
 // The first message with a fault, and at it the lowest number; of a meeting also the lowest earlier message, which is looked up only where a cell is found taken.
 // The row words are those of no message at the start, and of all where there is no fault.
 fn first_fault(
@@ -51,13 +34,12 @@ fn first_fault(
     partial: bool,
     taken: &mut [u32; words::MOST_ROWS],
 ) -> Fault
-    requires { ⌜ WellFormed (now p) × (messages ≡ messageCount (now p)) × (length (now w) ≡ proposalWords (now p)) ⌝ }
-    requires { ⌜ RowWords (now p) (now w) 0 (now taken) ⌝ }
+    requires { ⌜ WellFormed (now p) × (messages ≡ messageCount (now p)) × (length (now w) ≡ proposalWords (now p)) × RowWords (now p) (now w) 0 (now taken) ⌝ }
     ensures { λ f. ⌜ Walked (firstFault messages (faultIn partial (now (p .entry)) (now (w .entry)))) (now (p .entry)) (now (w .entry)) (now (taken .exit)) f ⌝ }
 {
     let rows = words::rows_of(p);
     let mut j: usize = 0;
-    let fault = 'faults: loop {
+    'faults: loop {
         if messages <= j {
             break 'faults Fault::Clear;
         }
@@ -73,12 +55,16 @@ fn first_fault(
             break 'faults Fault::Bad(q);
         }
         if row_words::occupy(taken, rows, step, c, r) {
-            let i = lowest_met(p, w, j);
-            break 'faults Fault::Bad(Refusal::Meeting(j as u32, i as u32));
+            let mut i: usize = 0;
+            loop {
+                if placing::do_meet(p, w, i, j) {
+                    break 'faults Fault::Bad(Refusal::Meeting(j as u32, i as u32));
+                }
+                i += 1;
+            }
         }
         j += 1;
-    };
-    fault
+    }
 }
 
 // What is wrong with a proposal for a well-formed problem: its number of words, or the first message with a fault.

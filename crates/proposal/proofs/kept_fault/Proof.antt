@@ -12,7 +12,7 @@ first-fault-requires : tie.Need-first-fault-requires
 first-fault-requires c κs =
     let tested = c .before .before in
     let start = tested .before .before .before .before in
-    ((start .pre .0, c .before .messages-of .ensures .0, tested .if1 .left ∙ tested .before .proposal-words .ensures .0), start .pre .1)
+    (start .pre .0, c .before .messages-of .ensures .0, tested .if1 .left ∙ tested .before .proposal-words .ensures .0, start .pre .1)
 
 returns-2 : tie.Need-returns-2
 returns-2 c =
