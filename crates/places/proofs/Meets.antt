@@ -47,7 +47,7 @@ module _ {p w : List ℕ} {m c r j d i : ℕ} (ec : column w m ≡ c) (er : row 
       let n = common p m j in
       record { one-column = sym ed ∙ sym (M .one-column) ∙ ec; rows-agree = ap (λ (x : ℕ). x % n) (sym ei) ∙ sym (M .rows-agree) ∙ ap (λ (x : ℕ). x % n) er }
 
-turned : {p w : List ℕ} {j k : ℕ} → Meets p w j k → Meets p w k j
+pub turned : {p w : List ℕ} {j k : ℕ} → Meets p w j k → Meets p w k j
 unfolding common
 turned {p} {w} {j} {k} M =
     record { one-column = sym (M .one-column); rows-agree = subst (λ (m : ℕ). row w k % m ≡ row w j % m) (min-comm (repeat p j) (repeat p k)) (sym (M .rows-agree)) }

@@ -1,3 +1,5 @@
+mod Parting
+mod Completing
 pub mod Order
 pub mod Gone
 pub mod Room

@@ -1,9 +1,10 @@
-// The planner: the least acceptable proposal, or that there is none.
+// The planner: the least acceptable proposal, of all or of those that keep some placements, or that there is none.
 pub mod answer;
 
 pub use answer::Planned;
 pub use places::PLAN_WORDS;
 use reader::Read;
+use rules::Fault;
 use rules::Refusal;
 use rules::words;
 ghost use mathlib.Core.Path.{_≡_};
@@ -11,12 +12,19 @@ ghost use Prim.Native.Nat.{_<_, _≤_};
 ghost use Rattle.rules.specs.Problem.{mostRows, mostColumns, messages, WellFormed};
 ghost use Rattle.places.specs.Places.{mostPlanned, Few};
 ghost use Rattle.planner.specs.Search.{put, unplanned, From, Begun, Fitting, Suiting, Searched};
-ghost use Rattle.planner.specs.Promise.{unready, Answered, Planning};
+ghost use Rattle.planner.specs.Promise.{unready, Answered, Planning, unreadyAgain, AnsweredAgain, Replanning};
+ghost use Rattle.planner.specs.Complete.{Sound, Completes};
 
 // What a search found, if it found something.
 struct Found {
     found: bool,
     plan: [u32; PLAN_WORDS],
+}
+
+// The same, of a whole proposal.
+struct Whole {
+    found: bool,
+    proposal: [u32; words::MOST_PROPOSAL],
 }
 
 // The plan, with message j at column c and base row r.
@@ -136,6 +144,53 @@ fn plan_words(p: &[u32], proposal: &mut [u32]) -> Planned
     Planned::Proposal(n)
 }
 
+// The least plan that keeps the kept placements, or that there is none: the other messages are a problem of their own, planned around the cells of the kept ones.
+fn complete(
+    p: &[u32],
+    kept: &[u32],
+    taken: &[u32; words::MOST_ROWS],
+    numbers: &[usize; places::MOST_PLANNED],
+    count: usize,
+) -> Whole
+    requires { ⌜ Sound (now p) (now kept) (now taken) (now numbers) count ⌝ }
+    ensures { λ f. ⌜ Completes (now (p .entry)) (now (kept .entry)) (f .found) (f .proposal) ⌝ }
+{
+    let mut words = [basics::FILL; rest::PART_WORDS];
+    let n = rest::part_of(p, numbers, count, &mut words);
+    let got = plan_around(&words[..n], taken);
+    let proposal = rest::joined(kept, numbers, count, &got.plan, words::messages_of(p));
+    Whole {
+        found: got.found,
+        proposal,
+    }
+}
+
+// Writes the least acceptable proposal of a problem that keeps the kept placements, or says why not.
+fn replan_words(p: &[u32], kept: &[u32], proposal: &mut [u32]) -> Planned
+    requires { ⌜ WellFormed (now p) ⌝ }
+    ensures { λ r. ⌜ AnsweredAgain (unreadyAgain (now (p .entry)) (now (kept .entry)) (now (proposal .entry))) (now (p .entry)) (now (kept .entry)) (now (proposal .entry)) (now (proposal .exit)) r ⌝ }
+{
+    let mut taken = [0u32; words::MOST_ROWS];
+    let fault = proposal::kept_fault(p, kept, &mut taken);
+    if let Fault::Bad(q) = fault {
+        return Planned::Refused(q);
+    }
+    let left = rest::free_of(kept, words::messages_of(p));
+    if places::MOST_PLANNED < left.count {
+        return Planned::Refused(Refusal::TooMany);
+    }
+    if proposal.len() < kept.len() {
+        return Planned::Refused(Refusal::Room);
+    }
+    let got = complete(p, kept, &taken, &left.numbers, left.count);
+    if !got.found {
+        return Planned::Refused(Refusal::NoPlan);
+    }
+    let whole = got.proposal;
+    basics::copy_words(&whole[..kept.len()], proposal);
+    Planned::Proposal(kept.len())
+}
+
 // Plans the problem of a file: writes the least acceptable proposal into the caller's buffer, or says why not.
 pub fn plan(file: &[u8], proposal: &mut [u32]) -> Planned
     ensures { λ r. ⌜ Planning (now (file .entry)) (now (proposal .entry)) (now (proposal .exit)) r ⌝ }
@@ -146,4 +201,16 @@ pub fn plan(file: &[u8], proposal: &mut [u32]) -> Planned
         return Planned::Refused(reader::answer::refusal_of(got));
     };
     plan_words(&words[..n], proposal)
+}
+
+// Plans the problem of a file again: writes the least acceptable proposal that keeps the kept placements into the caller's buffer, or says why not.
+pub fn replan(file: &[u8], kept: &[u32], proposal: &mut [u32]) -> Planned
+    ensures { λ r. ⌜ Replanning (now (file .entry)) (now (kept .entry)) (now (proposal .entry)) (now (proposal .exit)) r ⌝ }
+{
+    let mut words = [basics::FILL; words::MOST_WORDS];
+    let got = reader::decode(file, &mut words);
+    let Read::Problem(n) = got else {
+        return Planned::Refused(reader::answer::refusal_of(got));
+    };
+    replan_words(&words[..n], kept, proposal)
 }

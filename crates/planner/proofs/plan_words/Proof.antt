@@ -12,6 +12,7 @@ use Rattle.rules.specs.Tests.{Stand}
 use Rattle.places.specs.Places.{Few}
 use Rattle.planner.specs.Search.{unplanned, Best}
 use Rattle.planner.proofs.Room.{best-all, nowhere-all}
+use Rattle.planner.proofs.Least.{least-plan, no-plan}
 use Rattle.planner.proofs.Promise.{too-many, too-short, not-found, is-found}
 use Rattle.planner.proofs.plan_words.Statement.{statement}
 use Rattle.planner.proofs.plan_words.Tie as tie
@@ -31,10 +32,10 @@ room : (c : tie.Else2) → proposalWords (begun c .args .p .now) ≤ length (beg
 room c = omega (arith, c .before .proposal-words .ensures .0, c .if2 .left)
 
 returns : tie.Need-returns
-returns c = too-many _ _ (omega arith)
+returns c = let p = c .before .before .before .before .args .p .now in too-many (messages p) (proposalWords p) _ (omega arith)
 
 returns-2 : tie.Need-returns-2
-returns-2 c = too-short _ _ (omega arith) (omega arith)
+returns-2 c = let p = c .before .before .before .before .before .before .args .p .now in too-short (messages p) (proposalWords p) _ (omega arith) (omega arith)
 
 plan-around-requires : tie.Need-plan-around-requires
 plan-around-requires c κs = few (c .before)
@@ -43,8 +44,8 @@ returns-3 : tie.Need-returns-3
 returns-3 c =
     let searched = c .before .before in
     let at = ready searched in
-    not-found _ _ (few at .most) (room at) (few at .formed)
-    (nowhere-all (few at .formed) (rw (not-true (searched .plan-around .result .found) (c .if3 .taken)) at (searched .plan-around .ensures)))
+    not-found _ _ _ (few at .most) (room at) (no-plan (few at .formed)
+    (nowhere-all (few at .formed) (rw (not-true (searched .plan-around .result .found) (c .if3 .taken)) at (searched .plan-around .ensures))))
 
 -- what was found, where something was, and that it has a proposal's words
 best : (c : tie.Else3)
@@ -73,7 +74,8 @@ returns-4 : tie.Need-returns-4
 returns-4 c =
     let found = c .before .before .before .before .before .before in
     let at = ready (found .before .before) in
-    is-found _ _ (few at .most) (room at) (few at .formed) (at .before .proposal-words .ensures .0) (omega (arith, best found .long, long found)) (best found)
+    let words = at .before .proposal-words .ensures .0 in
+    is-found _ _ _ (few at .most) (room at) (found .before .before .plan-around .result .plan) (rw words (least-plan (few at .formed) _ _ (omega (arith, best found .long, long found)) (best found))) (long found)
     (c .before .before .copy-words .ensures)
 
 pub plan-words-spec : {M : Type 1} → statement M
