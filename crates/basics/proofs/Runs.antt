@@ -49,7 +49,7 @@ run-split g m (suc k) = rw (add-suc, run-split g m k, append-assoc)
 
 -- piece i of n begins where the pieces before it end
 module _ (g : ℕ → List ℕ) (n i : ℕ) (l : i < n) where
-  run-around : run n g ≡ run i g ++ g i ++ run (n - suc i) (λ k. g (suc i + k))
+  pub run-around : run n g ≡ run i g ++ g i ++ run (n - suc i) (λ k. g (suc i + k))
   unfolding run
   run-around = let e : n ≡ suc i + (n - suc i) = omega arith in ap (λ (k : ℕ). run k g) e ∙ run-split g (suc i) (n - suc i)
 

@@ -5,5 +5,6 @@ pub mod NodeLists
 pub mod Inserting
 pub mod Computed
 pub mod Written
+pub mod Kept
 pub mod Results
 pub mod Answering
