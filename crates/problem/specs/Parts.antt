@@ -1,19 +1,10 @@
--- What the functions that test words ask of them and say.
-use Prim.Native.Nat.{ℕ, _+_, _<_, _≤_}
+-- What is asked of words that are tested, written or given out: that they are as many as their header says.
+use Prim.Native.Nat.{ℕ, _≤_}
 use mathlib.Core.Path.{_≡_}
-use mathlib.Core.Bool.{not}
 use mathlib.Core.List.{List}
-use lib.Dec.{eqb}
 use lib.ListN.{length}
-use Rattle.rules.specs.declared.Fault.{Fault}
-use Rattle.rules.specs.declared.Refusal.the-variants.{Header}
-use Rattle.rules.specs.Refusal.{guard}
-use Rattle.rules.specs.Problem.{columnAt, messageAt, wordsFor, columns, messages, earliest}
+use Rattle.rules.specs.Problem.{wordsFor, columns, messages}
 use Rattle.problem.specs.Callers.{saidFor}
-
--- the fault of the header's number at byte b, where 0 is none
-unfoldable pub headerAt : ℕ → Fault
-headerAt b = guard (not (eqb b 0)) (Header b)
 
 -- p has the words of k columns and m messages, as its header says
 pub record Counted (p : List ℕ) (k m : ℕ) : Type 0 where
@@ -31,20 +22,3 @@ pub record Said (w : List ℕ) (n k m : ℕ) : Type 0 where
   pub most : n ≤ 3
   pub columns-most : k ≤ 32
   pub messages-most : m ≤ 64
-
--- p has the three words of column c
-pub record HasColumn (p : List ℕ) (c : ℕ) : Type 0 where
-  pub inside : columnAt c + 3 ≤ length p
-  pub few : c < 32
-
--- which may start at `from`
-pub record Reached (p : List ℕ) (c from : ℕ) : Type 0 where
-  pub from-is : from ≡ earliest p c
-  pub has : HasColumn p c
-
--- p has k columns, and behind them the seven words of message j
-pub record HasMessage (p : List ℕ) (k j : ℕ) : Type 0 where
-  pub columns-are : k ≡ columns p
-  pub inside : messageAt k j + 7 ≤ length p
-  pub few-columns : k ≤ 32
-  pub few : j < 64

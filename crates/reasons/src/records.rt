@@ -98,7 +98,7 @@ fn nodes_rule(messages: &[u32], j: u32) {
         fields::data_bytes(size);
     } else if MOST < receivers {
         found(b"the receivers must be a mask of 0 to 65535", receivers);
-    } else if problem::is_receiver(receivers, sender) {
+    } else if wellformed::is_receiver(receivers, sender) {
         paper::text_number(b"its sender, node ", sender);
         paper::text_number(b", must not be among its receivers, found mask ", receivers);
     } else {
@@ -127,7 +127,7 @@ fn timing(words: &[u32], messages: &[u32], j: u32) {
     let offset = field(messages, MESSAGE_WORDS, j, words::OFFSET);
     let rows = word(words, words::ROWS);
     let cycle = word(words, words::CYCLE);
-    if !problem::is_on_grid(rows, cycle, period) {
+    if !wellformed::is_on_grid(rows, cycle, period) {
         paper::text_number(b"the period must be the basic cycle (", cycle);
         paper::text_number(b") times a power of two up to the rows (", rows);
         found(b")", period);
@@ -163,7 +163,7 @@ fn triggers(words: &[u32], node: u32) -> u32 {
     if words.len() != words::message_at(columns, messages) {
         return 0;
     }
-    problem::triggers_of(words, columns, messages, node)
+    wellformed::triggers_of(words, columns, messages, node)
 }
 
 // A node, and how many triggers it needs.

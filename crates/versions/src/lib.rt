@@ -58,7 +58,7 @@ fn columns_held(layout: Layout, p: &[u32], k: usize, m: usize) -> Fault
 {
     let mut c: usize = 0;
     while c < k {
-        if kind_most(layout) < problem::kind_in(p, c) {
+        if kind_most(layout) < wellformed::kind_in(p, c) {
             return Fault::Bad(Refusal::Unheld(c as u32));
         }
         c += 1;
@@ -73,7 +73,7 @@ fn messages_held(layout: Layout, p: &[u32], k: usize, m: usize) -> Fault
 {
     let mut j: usize = 0;
     while j < m {
-        if identifier_most(layout) < problem::field_in(p, k, j, words::IDENTIFIER) {
+        if identifier_most(layout) < wellformed::field_in(p, k, j, words::IDENTIFIER) {
             return Fault::Bad(Refusal::Unheld(j as u32));
         }
         j += 1;

@@ -7,7 +7,7 @@ use Rattle.rules.specs.declared.Fault.the-variants.{Clear}
 use Rattle.rules.specs.declared.Refusal.the-variants.{Unheld}
 use Rattle.rules.proofs.Faults.{first-clear, first-at}
 use Rattle.problem.specs.Wrong.{columnUnheld}
-use Rattle.problem.proofs.Words.{has-column}
+use Rattle.wellformed.proofs.Words.{has-column}
 use Rattle.versions.proofs.Holding.{unheld, is-held}
 use borrow.Author.Needs.{needs}
 use Rattle.versions.proofs.columns_held.Statement.{statement}
