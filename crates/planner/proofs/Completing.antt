@@ -6,8 +6,7 @@ use mathlib.Core.List.{List}
 use native.Mathlib.Omega.{arith}
 use lib.ListN.{length, getD, take}
 use lib.Seq.{getD-take, length-take-le}
-use Rattle.rules.specs.Problem.{mostMessages, messages, proposalWords, column, row}
-use Rattle.rules.specs.Tests.{Stand}
+use Rattle.rules.specs.Problem.{mostMessages, messages, proposalWords}
 use Rattle.kept.specs.Kept.{Keeping}
 use Rattle.rest.specs.Part.{Part}
 use Rattle.rest.specs.Joined.{Joined}

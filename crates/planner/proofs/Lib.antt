@@ -6,4 +6,5 @@ pub mod Room
 pub mod Least
 pub mod Promise
 pub mod Unique
+pub mod Again
 pub mod Seek

@@ -2,13 +2,13 @@
 -- these, in the same order.
 use Prim.Native.Nat.{ℕ, zero, suc, _+_, _*_, _<_, _≤_}
 use mathlib.Core.Path.{_≡_, refl, sym, ap, subst, _∙_}
-use mathlib.Core.Bool.{true, false}
+use mathlib.Core.Bool.{true}
 use mathlib.Core.List.{List}
 use mathlib.Core.Logic.{inl, inr, ⊎-elim}
 use native.Mathlib.Nat.{eq-or-lt-of-le, le-of-suc-le-suc}
 use native.Mathlib.Omega.{arith}
 use lib.ListN.{length, getD, replicate, length-set, length-replicate}
-use Rattle.basics.proofs.Tests.{true-or, true-T, not-both, below-or}
+use Rattle.basics.proofs.Tests.{true-or, not-both, below-or}
 use Rattle.rules.specs.declared.Fault.the-variants.{Clear}
 use Rattle.rules.specs.Cells.{Here}
 use Rattle.rules.specs.Parts.{Member}

@@ -1,7 +1,7 @@
 -- What the fault of placements to keep says: who is named of a meeting, when there is none, and what it is where all messages are kept, or none is.
-use Prim.Native.Nat.{ℕ, _≤_, _<_}
+use Prim.Native.Nat.{ℕ, _<_}
 use mathlib.Core.Path.{_≡_, ap, _∙_, sym}
-use mathlib.Core.Bool.{Bool, true, false, not}
+use mathlib.Core.Bool.{true, false, not}
 use mathlib.Core.List.{List}
 use mathlib.Core.Logic.{inl, inr, _↔_, ⊎-elim}
 use native.Mathlib.Omega.{arith}
@@ -9,34 +9,19 @@ use lib.Dec.{eqb}
 use lib.ListN.{length}
 use borrow.Author.Tests.{eq-eqb, eqb-true}
 use Rattle.basics.proofs.Tests.{true-or, true-T, not-both}
-use Rattle.rules.specs.declared.Refusal.the-variants.{ProposalLength, Range, Width, Late, Meeting}
-use Rattle.rules.specs.declared.Fault.{Fault}
+use Rattle.rules.specs.declared.Refusal.the-variants.{ProposalLength, Meeting}
 use Rattle.rules.specs.declared.Fault.the-variants.{Clear, Bad}
-use Rattle.rules.specs.Paper.{paperOf}
 use Rattle.rules.specs.Problem.{messages, proposalWords, column, row, WellFormed}
 use Rattle.rules.specs.Refusal.{guard, _⊕_, firstFault}
-use Rattle.rules.specs.Tests.{inRange, fits, timely, meets, ownFault, meetingFault, fault, proposalFault}
+use Rattle.rules.specs.Tests.{meets, ownFault, meetingFault, fault, proposalFault}
 use Rattle.rules.proofs.Faults.{bad-not-clear, clear-both, clear-guard, clear-test, bad-guard, bad-either, first-clear, clear-first, first-same, bad-first}
 use Rattle.rules.proofs.Meaning.{own-alone, meets-is}
+use Rattle.rules.proofs.Named.{lower, not-own}
 use Rattle.kept.specs.Kept.{keeps}
 use Rattle.proposal.specs.Partial.{faultIn, keptFault}
 use Rattle.proposal.proofs.Walk.{looked-fault, unlooked-clear, column-looked}
 
 -- ---- a meeting
--- the tests of a message by itself, and that of the length, have lower numbers
-own-number : (a b d : Bool) (l : ℕ) → paperOf (guard a (Range l) ⊕ guard b (Width l) ⊕ guard d (Late l)) .number ≤ 12
-own-number true b d l = omega arith
-own-number false true d l = omega arith
-own-number false false true l = omega arith
-own-number false false false l = omega arith
-
-length-number : (b : Bool) → paperOf (guard b ProposalLength) .number ≤ 12
-length-number true = omega arith
-length-number false = omega arith
-
-not-met : {P : Type 0} {f : Fault} {j i : ℕ} → paperOf f .number ≤ 12 → f ≡ Bad (Meeting j i) → P
-not-met {f = f} l e = absurd (let n : paperOf f .number ≡ 13 = ap (λ (g : Fault). paperOf g .number) e in omega arith)
-
 -- both messages are kept, and no kept message before the later one has a fault
 pub record KeptMet (p k : List ℕ) (j i : ℕ) : Type 0 where
   pub among : j < messages p
@@ -51,16 +36,12 @@ named : {p k : List ℕ} {j i l h : ℕ} → Meeting j i ≡ Meeting l h → Kep
 named {j = j} {i = i} {l = l} {h = h} e m = let ej : j ≡ l = cc in let ei : i ≡ h = cc in rw (ej, ei) m
 
 module _ (p k : List ℕ) {j i : ℕ} where
-  not-own : {P : Type 0} (l : ℕ) → ownFault p l (column k l) (row k l) ≡ Bad (Meeting j i) → P
-  unfolding ownFault
-  not-own l = not-met (own-number (not (inRange p l (column k l) (row k l))) (not (fits p l (column k l))) (not (timely p l (column k l) (row k l))) l)
-
   -- the fault of a kept message
   at-met : (l : ℕ) → WellFormed p → l < messages p → keeps k l ≡ true → ((h : ℕ) → h < l → faultIn true p k h ≡ Clear) → fault p k l ≡ Bad (Meeting j i) → KeptMet p k j i
   unfolding fault meetingFault
   at-met l wf below kept before e =
       elim (bad-either (ownFault p l (column k l) (row k l)) _ e) [
-        | inl a ↦ not-own l a
+        | inl a ↦ not-own p k l a
         | inr d ↦
             let g = bad-first l (λ h. guard (meets p k h l) (Meeting l h)) (d .1) in
             let h = bad-guard (meets p k (g .at) l) (Meeting l (g .at)) (g .here) in
@@ -81,7 +62,7 @@ module _ (p k : List ℕ) {j i : ℕ} where
   unfolding keptFault
   kept-met wf e =
       elim (bad-either (guard (not (eqb (length k) (proposalWords p))) ProposalLength) _ e) [
-        | inl a ↦ not-met (length-number (not (eqb (length k) (proposalWords p)))) a
+        | inl a ↦ lower p k (not (eqb (length k) (proposalWords p))) ProposalLength (omega arith) a
         | inr b ↦
             let f = bad-first (messages p) (faultIn true p k) (b .1) in
             elim (true-or (keeps k (f .at))) [

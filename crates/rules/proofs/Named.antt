@@ -28,11 +28,11 @@ named {j = j} {i = i} {k = k} {l = l} e m = let ej : j ≡ k = cc in let ei : i 
 
 module _ (p w : List ℕ) {j i : ℕ} where
   -- a test of a lower number finds no meeting
-  lower : {P : Type 0} (b : Bool) (r : Refusal) → refused r .number < 13 → guard b r ≡ Bad (Meeting j i) → P
+  pub lower : {P : Type 0} (b : Bool) (r : Refusal) → refused r .number < 13 → guard b r ≡ Bad (Meeting j i) → P
   lower b r l e = absurd (let n : 13 ≡ refused r .number = ap (λ (q : Refusal). refused q .number) (bad-guard b r e .1) in omega arith)
 
   -- so a message by itself has none
-  not-own : {P : Type 0} (l : ℕ) → ownFault p l (column w l) (row w l) ≡ Bad (Meeting j i) → P
+  pub not-own : {P : Type 0} (l : ℕ) → ownFault p l (column w l) (row w l) ≡ Bad (Meeting j i) → P
   unfolding ownFault
   not-own l e =
       elim (bad-either (guard (not (inRange p l (column w l) (row w l))) (Range l)) _ e) [

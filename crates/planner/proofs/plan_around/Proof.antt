@@ -1,5 +1,4 @@
 -- The search begins with nothing placed, and with the table of all places that have no cell that is taken.
-use mathlib.Core.Path.{refl}
 use native.Mathlib.Omega.{arith}
 use borrow.Author.Needs.{needs}
 use Rattle.planner.proofs.Room.{leaves-all, searched-around}

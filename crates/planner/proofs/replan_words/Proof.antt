@@ -10,7 +10,7 @@ use Rattle.rules.specs.declared.Fault.the-variants.{Clear}
 use Rattle.rules.specs.Problem.{messages, proposalWords}
 use Rattle.row_words.proofs.Taking.{words-none}
 use Rattle.proposal.specs.Partial.{keptFault}
-use Rattle.proposal.proofs.KeptMet.{KeptClear, kept-faultless}
+use Rattle.proposal.proofs.KeptMet.{kept-faultless}
 use Rattle.rest.specs.Free.{freeOf}
 use Rattle.planner.specs.Complete.{Completed}
 use Rattle.planner.proofs.Promise.{too-many, too-short, not-found, is-found, first-refused, first-clear}

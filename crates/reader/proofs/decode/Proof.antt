@@ -1,5 +1,5 @@
 -- The words are tested where they stand, at the buffer's front; the head's refusal is handed on.
-use mathlib.Core.Path.{refl, sym, _∙_}
+use mathlib.Core.Path.{refl, sym}
 use lib.Seq.{length-take-le}
 use Rattle.problem.proofs.Wrong.{head-right, file-head}
 use Rattle.reader.proofs.Decoding.{answered-bad, decoded-bad, decoded-clear}
