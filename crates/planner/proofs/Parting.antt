@@ -12,7 +12,7 @@ use Rattle.basics.proofs.Tests.{true-or, not-both, below-or}
 use Rattle.rules.specs.declared.Fault.the-variants.{Clear}
 use Rattle.rules.specs.Cells.{Here}
 use Rattle.rules.specs.Parts.{Member}
-use Rattle.rules.specs.Problem.{rows, messages, repeat, Gives, column, row, WellFormed}
+use Rattle.rules.specs.Problem.{rows, messages, repeat, Gives, column, row, WellFormed, Placed}
 use Rattle.rules.specs.Tests.{ownFault, Stand}
 use Rattle.rules.proofs.Bounds.{member}
 use Rattle.rules.proofs.Cells.{cell-meets, meets-cell}
@@ -143,21 +143,32 @@ module _ {p k t m q : List ℕ} {n : ℕ} (S : Sound p k t m n) (Q : Part p m n 
         (λ y. rw (J .kept-columns j lj y, J .kept-rows j lj y) (fault-own p k j (kept .each j lj y)))
         (λ f.
         let at = S .free .all j lj f in
-        let own = own-part Q (at .slot) (column u (at .slot)) (row u (at .slot)) (at .among) (fault-own q u (at .slot) (U .stands .each (at .slot) (slots (at .slot) (at .among)))) in
-        subst (λ (i : ℕ). ownFault p i (column w i) (row w i) ≡ Clear) (at .is) (rw (J .free-columns (at .slot) (at .among), J .free-rows (at .slot) (at .among)) own))
+        let s = at .slot in
+        let ls = at .among in
+        let own = own-part Q s (column u s) (row u s) ls (fault-own q u s (U .stands .each s (slots s ls))) in
+        subst (λ (i : ℕ). ownFault p i (column w i) (row w i) ≡ Clear) (at .is) (rw (J .free-columns s ls, J .free-rows s ls) own))
         (true-or (keeps k j))
+
+    whole-placed : (j : ℕ) → j < messages p → Placed p j (column w j) (row w j)
+    whole-placed j lj = own-alone p j (column w j) (row w j) (whole-own j lj) .placed
+
+    -- a kept message has its cells in k as in w
+    was : {i c : ℕ} (j : ℕ) → j < messages p → keeps k j ≡ true → Here p w j i c → Here p k j i c
+    was j lj y h = record {
+      same-column = sym (J .kept-columns j lj y) ∙ h .same-column;
+      turn = h .turn;
+      same-row = ap (_+ h .turn * repeat p j) (sym (J .kept-rows j lj y)) ∙ h .same-row;
+    }
 
     -- a kept message and another do not meet: what suits has none of its cells
     kept-apart : (j s : ℕ) → j < messages p → keeps k j ≡ true → s < n → Meets p w j (getD m s 0) → ⊥
     kept-apart j s lj y ls M =
+        let other = getD m s 0 in
         let ln = S .free .below s ls in
-        let both = meets-cell (one-of j lj) (one-of (getD m s 0) ln) (own-alone p j _ _ (whole-own j lj) .placed) (own-alone p (getD m s 0) _ _ (whole-own (getD m s 0) ln) .placed) M in
+        let both = meets-cell (one-of j lj) (one-of other ln) (whole-placed j lj) (whole-placed other ln) M in
         let i = both .at-row in
-        let first = both .first in
         let second = both .second in
-        let his : Here p k j i (column w (getD m s 0)) =
-        record { same-column = sym (J .kept-columns j lj y) ∙ first .same-column; turn = first .turn; same-row = ap (_+ first .turn * repeat p j) (sym (J .kept-rows j lj y)) ∙ first .same-row } in
-        let set = S .cells .each i (column w (getD m s 0)) (both .low) .1 record { by = j; among = lj; here = his } in
+        let set = S .cells .each i (column w other) (both .low) .1 record { by = j; among = lj; here = was j lj y (both .first) } in
         let row-is : row u s + second .turn * repeat q s ≡ i = rw (← J .free-rows s ls, part-repeat Q s ls) (second .same-row) in
         U .free s (slots s ls) record {
           turn = second .turn;
@@ -165,31 +176,39 @@ module _ {p k t m q : List ℕ} {n : ℕ} (S : Sound p k t m n) (Q : Part p m n 
           set = rw (row-is, ← J .free-columns s ls) set;
         }
 
+    -- nor do two kept ones, by their test, nor two others, by theirs
+    both-kept : (i j : ℕ) → i < j → j < messages p → keeps k i ≡ true → keeps k j ≡ true → Meets p w i j → ⊥
+    both-kept i j l lj y z M =
+        let li : i < messages p = omega arith in
+        fault-sound p k j (kept .each j lj z) .clear i l (is-meets p k i j record {
+          one-column = sym (J .kept-columns i li y) ∙ M .one-column ∙ J .kept-columns j lj z;
+          rows-agree = rw (← J .kept-rows i li y, ← J .kept-rows j lj z) (M .rows-agree);
+        })
+
+    both-free : (s b : ℕ) → s < n → b < n → (s ≡ b → ⊥) → Meets p w (getD m s 0) (getD m b 0) → ⊥
+    both-free s b ls lb ne M =
+        not-met (U .stands) s b (slots s ls) (slots b lb) ne
+        (part-meets Q ls lb (J .free-columns s ls) (J .free-rows s ls) (J .free-columns b lb) (J .free-rows b lb) M)
+
     whole-apart : (i j : ℕ) → i < j → j < messages p → Meets p w i j → ⊥
     whole-apart i j l lj M =
         let li : i < messages p = omega arith in
         ⊎-elim
         (λ y. ⊎-elim
-        (λ z.
-        fault-sound p k j (kept .each j lj z) .clear i l (is-meets p k i j record {
-          one-column = sym (J .kept-columns i li y) ∙ M .one-column ∙ J .kept-columns j lj z;
-          rows-agree = rw (← J .kept-rows i li y, ← J .kept-rows j lj z) (M .rows-agree);
-        }))
-        (λ f. let b = S .free .all j lj f in kept-apart i (b .slot) li y (b .among) (subst (λ (h : ℕ). Meets p w i h) (sym (b .is)) M))
+        (λ z. both-kept i j l lj y z M)
+        (λ g. let b = S .free .all j lj g in kept-apart i (b .slot) li y (b .among) (subst (λ (h : ℕ). Meets p w i h) (sym (b .is)) M))
         (true-or (keeps k j)))
         (λ f.
         let a = S .free .all i li f in
+        let ea = a .is in
         ⊎-elim
-        (λ z. kept-apart j (a .slot) lj z (a .among) (subst (λ (h : ℕ). Meets p w j h) (sym (a .is)) (turned M)))
+        (λ z. kept-apart j (a .slot) lj z (a .among) (subst (λ (h : ℕ). Meets p w j h) (sym ea) (turned M)))
         (λ g.
         let b = S .free .all j lj g in
-        let M′ = subst (λ (h : ℕ). Meets p w (getD m (a .slot) 0) h) (sym (b .is)) (subst (λ (h : ℕ). Meets p w h j) (sym (a .is)) M) in
-        let ea = a .is in
         let eb = b .is in
-        not-met (U .stands) (a .slot) (b .slot) (slots (a .slot) (a .among)) (slots (b .slot) (b .among))
+        both-free (a .slot) (b .slot) (a .among) (b .among)
         (λ e. let same = ap (λ (s : ℕ). getD m s 0) e in omega arith)
-        (part-meets Q (a .among) (b .among) (J .free-columns (a .slot) (a .among)) (J .free-rows (a .slot) (a .among)) (J .free-columns (b .slot) (b .among))
-        (J .free-rows (b .slot) (b .among)) M′))
+        (subst (λ (h : ℕ). Meets p w (getD m (a .slot) 0) h) (sym eb) (subst (λ (h : ℕ). Meets p w h j) (sym ea) M)))
         (true-or (keeps k j)))
         (true-or (keeps k i))
 
@@ -204,22 +223,22 @@ module _ {p k t m q : List ℕ} {n : ℕ} (S : Sound p k t m n) (Q : Part p m n 
   -- ---- the order of two that keep k is that of their slots
   module _ {w x u v : List ℕ} (A : Keeping p k w) (B : Keeping p k x) (P : Picked w m u n) (R : Picked x m v n) where
     same-below : (h : ℕ) → h ≤ messages p → ((s : ℕ) → s < n → getD m s 0 < h → (column u s ≡ column v s) × (row u s ≡ row v s)) → Agree w x h
-    same-below h most same = record {
-      columns-same = λ j l. ⊎-elim
-          (λ y. A .columns-same j (omega arith) y ∙ sym (B .columns-same j (omega arith) y))
-          (λ f.
-          let a = S .free .all j (omega arith) f in
-          let e = a .is in
-          subst (λ (i : ℕ). column w i ≡ column x i) e (P .columns-same (a .slot) (a .among) ∙ same (a .slot) (a .among) (omega arith) .0 ∙ sym (R .columns-same (a .slot) (a .among))))
-          (true-or (keeps k j));
-      rows-same = λ j l. ⊎-elim
-          (λ y. A .rows-same j (omega arith) y ∙ sym (B .rows-same j (omega arith) y))
-          (λ f.
-          let a = S .free .all j (omega arith) f in
-          let e = a .is in
-          subst (λ (i : ℕ). row w i ≡ row x i) e (P .rows-same (a .slot) (a .among) ∙ same (a .slot) (a .among) (omega arith) .1 ∙ sym (R .rows-same (a .slot) (a .among))))
-          (true-or (keeps k j));
-    }
+    same-below h most same = record { columns-same = λ j l. both j l .0; rows-same = λ j l. both j l .1 }
+      where
+        both : (j : ℕ) → j < h → (column w j ≡ column x j) × (row w j ≡ row x j)
+        both j l =
+            let lj : j < messages p = omega arith in
+            ⊎-elim
+            (λ y. (A .columns-same j lj y ∙ sym (B .columns-same j lj y), A .rows-same j lj y ∙ sym (B .rows-same j lj y)))
+            (λ f.
+            let a = S .free .all j lj f in
+            let s = a .slot in
+            let ls = a .among in
+            let e = a .is in
+            let equal = same s ls (omega arith) in
+            subst (λ (i : ℕ). (column w i ≡ column x i) × (row w i ≡ row x i)) e
+            (P .columns-same s ls ∙ equal .0 ∙ sym (R .columns-same s ls), P .rows-same s ls ∙ equal .1 ∙ sym (R .rows-same s ls)))
+            (true-or (keeps k j))
 
     -- a slot whose message comes before is before
     slot-before : (s b : ℕ) → s < n → b < n → getD m s 0 < getD m b 0 → s < b
