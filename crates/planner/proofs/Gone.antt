@@ -15,9 +15,10 @@ use Rattle.rules.specs.Tests.{ownFault, meetingFault, fault, Stand}
 use Rattle.rules.proofs.Meaning.{meets-is, unmet-clear}
 use Rattle.rules.proofs.Prefix.{same-fault}
 use Rattle.places.proofs.Meets.{meets-clash}
+use Rattle.rest.specs.Joined.{put}
 use Rattle.planner.specs.Order.{Agree, Before}
 use Rattle.places.specs.Places.{tableAt}
-use Rattle.planner.specs.Search.{put, Leaves, Best, Nowhere}
+use Rattle.planner.specs.Search.{Leaves, Best, Nowhere}
 use Rattle.planner.proofs.Order.{places, agree-refl, agree-sym, agree-trans, agree-less, put-keeps, put-column, put-row, put-agree}
 
 -- a message's fault goes by the placements up to it

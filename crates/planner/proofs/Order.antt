@@ -1,17 +1,18 @@
 -- Laws of the order of proposals: of two one is not after the other, and only equal ones are both.
-use Prim.Native.Nat.{ℕ, _+_, _*_, _/_, _%_, _<_, _≤_}
+use Prim.Native.Nat.{ℕ, _+_, _*_, _/_, _%_, _≤_}
 use mathlib.Core.Path.{_≡_, refl, sym, _∙_}
 use mathlib.Core.List.{List}
 use mathlib.Core.Logic.{_⊎_, inl, inr, ⊎-elim}
 use native.Mathlib.Nat.{eq-or-lt-of-le}
 use native.Mathlib.Omega.{arith}
 use borrow.Author.Count.{below-more}
-use lib.ListN.{length, getD, set, length-set}
-use lib.Seq.{getD-set-same, getD-set-other, ext-getD}
+use lib.ListN.{length}
+use lib.Seq.{ext-getD}
 use Rattle.basics.proofs.Tests.{below-or}
 use Rattle.rules.specs.Problem.{Gives, column, row}
+use Rattle.rest.specs.Joined.{put}
+use Rattle.rest.proofs.Joining.{other-column, other-row, own-column, own-row}
 use Rattle.planner.specs.Order.{Agree, Before, Smaller, NotAfter}
-use Rattle.planner.specs.Search.{put}
 
 -- ---- places
 -- of two places one is before the other, or they are the same
@@ -103,24 +104,18 @@ not-after-agree x {n} g (inr f) =
 
 -- ---- message k placed at column c and base row r
 module _ (v : List ℕ) (k c r : ℕ) where
-  put-other : (i : ℕ) → i < 2 * k → getD v i 0 ≡ getD (put v k c r) i 0
-  put-other i l =
-      sym (getD-set-other (set v (2 * k) c) (2 * k + 1) i r 0 (omega arith) ∙ getD-set-other v (2 * k) i c 0 (omega arith))
-
   pub put-keeps : Agree v (put v k c r) k
   put-keeps = record {
-    columns-same = λ j l. put-other (2 * j) (omega arith);
-    rows-same = λ j l. put-other (2 * j + 1) (omega arith);
+    columns-same = λ j l. sym (other-column v k c r j (λ e. omega arith));
+    rows-same = λ j l. sym (other-row v k c r j (λ e. omega arith));
   }
 
   module _ (room : Gives v k) where
     pub put-column : column (put v k c r) k ≡ c
-    put-column =
-        getD-set-other (set v (2 * k) c) (2 * k + 1) (2 * k) r 0 (omega arith)
-        ∙ getD-set-same v (2 * k) c 0 (omega arith)
+    put-column = own-column v k c r room
 
     pub put-row : row (put v k c r) k ≡ r
-    put-row = getD-set-same (set v (2 * k) c) (2 * k + 1) r 0 (simp length-set room)
+    put-row = own-row v k c r room
 
     -- what begins with v's first k, and has message k there, begins with these k + 1
     pub put-agree : {w : List ℕ} → Agree v w k → column w k ≡ c → row w k ≡ r → Agree (put v k c r) w (k + 1)

@@ -23,11 +23,11 @@ use Rattle.row_words.specs.RowWords.{SetBefore}
 use Rattle.proposal.proofs.KeptMet.{KeptClear, kept-faultless}
 use Rattle.places.proofs.Meets.{fault-own, turned, not-met}
 use Rattle.rest.specs.Part.{Part}
-use Rattle.rest.specs.Joined.{Joined}
+use Rattle.rest.specs.Joined.{put, Joined}
 use Rattle.rest.proofs.Formed.{free-numbers, part-formed}
 use Rattle.rest.proofs.Same.{part-rows, part-repeat, own-part, part-own, meets-part, part-meets}
 use Rattle.planner.specs.Order.{Agree, NotAfter}
-use Rattle.planner.specs.Search.{put, Suiting}
+use Rattle.planner.specs.Search.{Suiting}
 use Rattle.planner.specs.Complete.{Sound}
 use Rattle.planner.proofs.Order.{put-keeps, put-column, put-row}
 

@@ -13,8 +13,9 @@ use Rattle.rules.specs.Problem.{columns, messages, repeat, proposalWords, Gives
 use Rattle.rules.specs.Tests.{fault, Stand}
 use Rattle.rules.proofs.Faults.{bad-not-clear}
 use Rattle.rules.proofs.Meaning.{stands}
+use Rattle.rest.specs.Joined.{put}
 use Rattle.planner.specs.Least.{Plan, Least}
-use Rattle.planner.specs.Search.{put, Best, Nowhere}
+use Rattle.planner.specs.Search.{Best, Nowhere}
 use Rattle.planner.proofs.Gone.{fault-agree, put-stood, Gone, gone-start, gone-next, gone-column, gone-all, found, whole}
 use Rattle.planner.proofs.Least.{least-plan, no-plan}
 use Rattle.planner.proofs.Order.{put-agree}

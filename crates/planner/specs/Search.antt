@@ -1,9 +1,9 @@
 -- What the search asks and answers at each call: its first k messages are placed as in v.
-use Prim.Native.Nat.{ℕ, _+_, _*_, _<_, _≤_}
+use Prim.Native.Nat.{ℕ, _*_, _<_, _≤_}
 use mathlib.Core.Path.{_≡_}
 use mathlib.Core.Bool.{Bool, true, false}
 use mathlib.Core.List.{List}
-use lib.ListN.{length, getD, set, replicate}
+use lib.ListN.{length, getD, replicate}
 use Rattle.basics.specs.Bits.{Has}
 use Rattle.rules.specs.Problem.{rows, messages, repeat, column, row}
 use Rattle.rules.specs.declared.Fault.the-variants.{Clear}
@@ -19,10 +19,6 @@ planWords = 2 * mostPlanned
 -- a plan before anything is placed
 abbrev pub unplanned : List ℕ
 unplanned = replicate planWords 0
-
--- v with message k at column c and base row r
-abbrev pub put : List ℕ → ℕ → ℕ → ℕ → List ℕ
-put v k c r = set (set v (2 * k) c) (2 * k + 1) r
 
 -- the table t leaves the messages from k on only places that they may have by themselves and beside the first k of v
 pub record Leaves (p : List ℕ) (k : ℕ) (v t : List ℕ) : Type 0 where

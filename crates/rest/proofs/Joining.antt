@@ -8,10 +8,10 @@ use borrow.Author.Count.{below-none, below-more}
 use lib.ListN.{length, getD, set, length-set, List·getD-append}
 use lib.Seq.{getD-set-same, getD-set-other}
 use Rattle.basics.proofs.Tests.{not-both}
-use Rattle.rules.specs.Problem.{column, row, mostMessages}
+use Rattle.rules.specs.Problem.{Gives, column, row, mostMessages}
 use Rattle.kept.specs.Kept.{keeps}
 use Rattle.rest.specs.Free.{Free}
-use Rattle.rest.specs.Joined.{Joined}
+use Rattle.rest.specs.Joined.{put, Joined}
 
 -- the kept placements at the front, and as yet no slot
 pub joined-none : {k m v w : List ℕ} {h : ℕ} (rest : List ℕ) → length k ≡ 2 * h → w ≡ k ++ rest → Joined k m 0 v h w
@@ -24,22 +24,22 @@ joined-none {k} {m} {v} {w} {h} rest l e = record {
 
 -- two words put in for message j are its column and its base row, and no other message's
 module _ (w : List ℕ) (j c r : ℕ) where
-  other-column : (i : ℕ) → ¬ (i ≡ j) → column (set (set w (2 * j) c) (2 * j + 1) r) i ≡ column w i
+  pub other-column : (i : ℕ) → ¬ (i ≡ j) → column (put w j c r) i ≡ column w i
   other-column i d = getD-set-other (set w (2 * j) c) (2 * j + 1) (2 * i) r 0 (λ e. omega arith) ∙ getD-set-other w (2 * j) (2 * i) c 0 (λ e. d (omega arith))
 
-  other-row : (i : ℕ) → ¬ (i ≡ j) → row (set (set w (2 * j) c) (2 * j + 1) r) i ≡ row w i
+  pub other-row : (i : ℕ) → ¬ (i ≡ j) → row (put w j c r) i ≡ row w i
   other-row i d = getD-set-other (set w (2 * j) c) (2 * j + 1) (2 * i + 1) r 0 (λ e. d (omega arith)) ∙ getD-set-other w (2 * j) (2 * i + 1) c 0 (λ e. omega arith)
 
-  module _ (room : 2 * j + 1 < length w) where
-    own-column : column (set (set w (2 * j) c) (2 * j + 1) r) j ≡ c
+  module _ (room : Gives w j) where
+    pub own-column : column (put w j c r) j ≡ c
     own-column = getD-set-other (set w (2 * j) c) (2 * j + 1) (2 * j) r 0 (λ e. omega arith) ∙ getD-set-same w (2 * j) c 0 (omega arith)
 
-    own-row : row (set (set w (2 * j) c) (2 * j + 1) r) j ≡ r
+    pub own-row : row (put w j c r) j ≡ r
     own-row = getD-set-same (set w (2 * j) c) (2 * j + 1) r 0 (omega (arith, length-set w (2 * j) c))
 
 -- a slot more
 pub joined-more : {k m v w : List ℕ} {n s h : ℕ} → Free k h m n → s < n → h ≤ mostMessages → length w ≡ 2 * mostMessages → Joined k m s v h w
-    → Joined k m (s + 1) v h (set (set w (2 * getD m s 0) (column v s)) (2 * getD m s 0 + 1) (row v s))
+    → Joined k m (s + 1) v h (put w (getD m s 0) (column v s) (row v s))
 joined-more {k} {m} {v} {w} {n} {s} {h} F l few long J = record {
   kept-columns = λ i g f. other-column w j c r i (not-kept i f) ∙ J .kept-columns i g f;
   kept-rows = λ i g f. other-row w j c r i (not-kept i f) ∙ J .kept-rows i g f;

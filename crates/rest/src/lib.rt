@@ -2,12 +2,12 @@
 use rules::words;
 ghost use mathlib.Core.Path.{_≡_};
 ghost use Prim.Native.Nat.{_+_, _*_, _<_, _≤_};
-ghost use lib.ListN.{length, set, take};
+ghost use lib.ListN.{length, take};
 ghost use Rattle.rules.specs.Problem.{WellFormed, messages as messageCount, mostMessages};
 ghost use Rattle.places.specs.Places.{mostPlanned};
 ghost use Rattle.rest.specs.Free.{freeOf, Free};
 ghost use Rattle.rest.specs.Part.{partWords, Part, Numbers, Filed};
-ghost use Rattle.rest.specs.Joined.{Joined};
+ghost use Rattle.rest.specs.Joined.{put, Joined};
 
 // The words of the longest problem that is planned.
 pub const PART_WORDS: usize = words::HEADER_WORDS
@@ -78,7 +78,7 @@ pub fn part_of(
 // Gives message j column c and base row r.
 fn put(w: &mut [u32; words::MOST_PROPOSAL], j: usize, c: u32, r: u32)
     requires { ⌜ (j < mostMessages) × (length (now w) ≡ 2 * mostMessages) ⌝ }
-    ensures { λ _. ⌜ now (w .exit) ≡ set (set (now (w .entry)) (2 * j) c) (2 * j + 1) r ⌝ }
+    ensures { λ _. ⌜ now (w .exit) ≡ put (now (w .entry)) j c r ⌝ }
 {
     w[2 * j] = c;
     w[2 * j + 1] = r;
