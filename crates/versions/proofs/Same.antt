@@ -15,8 +15,8 @@ use Rattle.log.specs.Promise.{Holding, DueWritten}
 use Rattle.log.proofs.Held.{holding-one}
 use Rattle.log.proofs.Results.{due-written-one}
 use Rattle.planner.specs.declared.answer.Planned.{Planned}
-use Rattle.planner.specs.Promise.{Planning}
-use Rattle.planner.proofs.Unique.{planning-one}
+use Rattle.planner.specs.Promise.{Planning, Replanning}
+use Rattle.planner.proofs.Unique.{planning-one, replanning-one}
 
 -- a promise made for g is one made for f: it goes by what is wrong with the file, which is nothing, and by its words
 module _ {f g p : List ℕ} (a : Reads f p) (b : Reads g p) where
@@ -39,6 +39,9 @@ module _ {f g p : List ℕ} (a : Reads f p) (b : Reads g p) where
   planned : {d e : List ℕ} {r : Planned} → Planning g d e r → Planning f d e r
   planned h = record { answered = rw (a .clear, a .words) (rw (b .clear, b .words) at (h .answered)) }
 
+  replanned : {k d e : List ℕ} {r : Planned} → Replanning g k d e r → Replanning f k d e r
+  replanned h = record { answered = rw (a .clear, a .words) (rw (b .clear, b .words) at (h .answered)) }
+
   -- the theorem, call by call
   pub judge-same : {w : List ℕ} {r s : Judged} → Judging f w r → Judging g w s → r ≡ s
   judge-same h k = judging-one h (judged k)
@@ -54,3 +57,6 @@ module _ {f g p : List ℕ} (a : Reads f p) (b : Reads g p) where
 
   pub plan-same : {d e x : List ℕ} {r s : Planned} → Planning f d e r → Planning g d x s → (r ≡ s) × (e ≡ x)
   plan-same h k = planning-one h (planned k)
+
+  pub replan-same : {k d e x : List ℕ} {r s : Planned} → Replanning f k d e r → Replanning g k d x s → (r ≡ s) × (e ≡ x)
+  replan-same h q = replanning-one h (replanned q)
