@@ -29,13 +29,15 @@
      6      a message's identifier, node, data bytes or receivers are wrong             the message
      7      a message's period, offset or deadline is wrong                             the message
      8      a node needs more triggers than it may have                                 the lowest such node
-     9      the proposal is not two words for each message                              0
+     9      the proposal, or the list of what is to be kept, is not two words for       0
+            each message
     10      a message's column or base row is out of range                              the message
     11      a message's frame is longer than its column is wide                         the message
     12      a message is late: not sent from release to deadline                        the message
     13      a message meets an earlier one                                              the later message
-    14      no acceptable proposal exists                                               0
-    15      there are more than 16 messages to plan                                     0
+    14      no acceptable proposal exists; with ffy_replan none that keeps what is      0
+            to be kept
+    15      there are more than 16 messages to plan, kept ones not counted              0
     16      the output buffer is too short                                              0
     17      the event words are not five for each event, or more than 320               0
     18      a field of an event is wrong                                                the first such event
@@ -53,9 +55,12 @@
 extern "C" {
 #endif
 
-/* Room for every output: a problem's words, its file's bytes, a proposal of the planner, the trigger lists, response times, the
-   list that is due. */
-enum { FFY_WORDS = 551, FFY_BYTES = 1456, FFY_PLAN = 32, FFY_LISTS = 2064, FFY_TIMES = 64, FFY_DUE = 422400 };
+/* Room for every output: a problem's words, its file's bytes, a proposal of ffy_plan and one of ffy_replan, the trigger lists,
+   response times, the list that is due. */
+enum { FFY_WORDS = 551, FFY_BYTES = 1456, FFY_PLAN = 32, FFY_REPLAN = 128, FFY_LISTS = 2064, FFY_TIMES = 64, FFY_DUE = 422400 };
+
+/* Stands twice for no placement to keep, and for no send that was due. */
+#define FFY_NONE UINT32_C(4294967295)
 
 /* Reads a problem file into words. Figure 0: how many words. Refuses with 1 to 8, 16. */
 void ffy_read(const uint8_t *file, size_t file_len, uint32_t *words, size_t words_len, uint32_t answer[8]);
@@ -81,7 +86,7 @@ void ffy_lists(const uint8_t *file, size_t file_len, const uint32_t *proposal, s
 /* Holds a log against the plan for a span of 1 to 100 matrix cycles from time 0. A log has two words a send: start time and
    identifier, reference messages included. Figure 0: 0 if the log is exactly the list of sends that start in the span, in order,
    and all other figures are 0 then; 1 if it differs. Figures 1 to 3: the first pair that differs, from 0 (the log's length in pairs
-   if it is too short), and the time and the identifier that were due there, both 4294967295 if nothing was.
+   if it is too short), and the time and the identifier that were due there, both FFY_NONE if nothing was.
    Refuses with 1 to 13, 24. */
 void ffy_hold(const uint8_t *file, size_t file_len, const uint32_t *proposal, size_t proposal_len, const uint32_t *log, size_t log_len,
               uint32_t span, uint32_t answer[8]);
@@ -93,6 +98,13 @@ void ffy_due(const uint8_t *file, size_t file_len, const uint32_t *proposal, siz
 /* Plans at most 16 messages: writes the least acceptable proposal, or answers 14 if there is none. Figure 0: how many words.
    Refuses with 1 to 8, 14 to 16. */
 void ffy_plan(const uint8_t *file, size_t file_len, uint32_t *proposal, size_t proposal_len, uint32_t answer[8]);
+
+/* Plans again with placements to keep: writes the least acceptable proposal among those that keep them, or answers 14 if there is
+   none. kept has two words for each message, column and base row, or FFY_NONE twice for none; at most 16 messages have none.
+   Figure 0: how many words. Refuses with 1 to 9, with 10 to 13 for the first kept message at fault (13: it meets an earlier kept one),
+   then 15, 16, 14. */
+void ffy_replan(const uint8_t *file, size_t file_len, const uint32_t *kept, size_t kept_len, uint32_t *proposal, size_t proposal_len,
+                uint32_t answer[8]);
 
 /* Writes the response time of each event on a plain CAN bus, five words an event: identifier, data bytes, period, jitter, deadline.
    It is the longest response of all instances in the event's busy period; 0 is a miss. Figure 0: how many misses.

@@ -9,7 +9,7 @@ use Rattle.rules.specs.Paper.{Answers}
 use Rattle.rules.specs.Problem.{columns, messages, WellFormed}
 use Rattle.rules.specs.declared.Fault.{Fault}
 use Rattle.rules.specs.declared.Fault.the-variants.{Clear, Bad}
-use Rattle.rules.proofs.Faults.{bad-not-clear, clear-both}
+use Rattle.rules.proofs.Faults.{clear-both}
 use Rattle.rules.proofs.Told.{answers-clear}
 use Rattle.problem.proofs.File.{length-file}
 use Rattle.problem.proofs.Wrong.{file-formed}
@@ -39,9 +39,9 @@ use Rattle.log.specs.declared.answer.Due.the-variants.{Words}
 use Rattle.log.specs.Promise.{DueWritten}
 use Rattle.log.proofs.Results.{due-small}
 use Rattle.planner.specs.declared.answer.Planned.{Planned}
-use Rattle.planner.specs.declared.answer.Planned.the-variants.{Proposal}
 use Rattle.planner.specs.Answer as ofPlanner
-use Rattle.planner.specs.Promise.{Planning, Answered, refused, none, planned}
+use Rattle.planner.specs.Least.{Plan}
+use Rattle.planner.specs.Promise.{Chosen, refused, none, planned, Planning, Replanning}
 use Rattle.versions.specs.declared.Moved.{Moved}
 use Rattle.versions.specs.Answer as ofVersions
 use Rattle.versions.specs.Promise.{Raising, Lowering}
@@ -86,12 +86,18 @@ lists-fits f h is =
 pub due-fits : (f : List ℕ) {w d e : List ℕ} {span : ℕ} {r : Due} {n : ℕ} → DueWritten f w span d e r → r ≡ Words n → n < 4294967296
 due-fits f {w} {d} {e} {span} h is = due-small f (subst (DueWritten f w span d e) is h)
 
-answered-fits : {x : Fault} {p d e : List ℕ} {r : Planned} {n : ℕ} → (x ≡ Clear → WellFormed p) → Answered x p d e r → r ≡ Proposal n → n < 4294967296
-answered-fits formed (refused q b a) is = bad-not-clear (answers-clear (ap ofPlanner.paper is) (ap ofPlanner.countOf is) a .0) refl
-answered-fits formed (none c nothing a) is = bad-not-clear (answers-clear (ap ofPlanner.paper is) (ap ofPlanner.countOf is) a .0) refl
-answered-fits formed (planned c w least a) is =
-    let wrote = answers-clear (ap ofPlanner.paper is) (ap ofPlanner.countOf is) a in
-    omega (arith, formed c .header, least .plan .in-range .words, wrote .1)
+-- the proposals that are sought are short
+chosen-fits : {A : List ℕ → Type 0} {m : ℕ} {x : Fault} {d e : List ℕ} {r : Planned} → (x ≡ Clear → (w : List ℕ) → A w → length w < 4294967296) → Chosen A m x d e r → ofPlanner.countOf r < 4294967296
+chosen-fits small (refused q b a) = omega (arith, a .count-is)
+chosen-fits small (none c nothing a) = omega (arith, a .count-is)
+chosen-fits small (planned c w least a) = omega (arith, a .count-is, small c w (least .plan))
 
-pub plan-fits : (f : List ℕ) {d e : List ℕ} {r : Planned} {n : ℕ} → Planning f d e r → r ≡ Proposal n → n < 4294967296
-plan-fits f h is = answered-fits (λ c. file-formed f (clear-both _ _ c .0)) (h .answered) is
+-- and so is each plan of a well-formed problem
+plan-small : {p w : List ℕ} → WellFormed p → Plan p w → length w < 4294967296
+plan-small formed h = omega (arith, formed .header, h .in-range .words)
+
+pub plan-fits : (f : List ℕ) {d e : List ℕ} {r : Planned} → Planning f d e r → ofPlanner.countOf r < 4294967296
+plan-fits f h = chosen-fits (λ c w v. plan-small (file-formed f (clear-both _ _ c .0)) v) (h .answered)
+
+pub replan-fits : (f : List ℕ) {k d e : List ℕ} {r : Planned} → Replanning f k d e r → ofPlanner.countOf r < 4294967296
+replan-fits f h = chosen-fits (λ c w v. plan-small (file-formed f (clear-both _ _ c .0)) (v .plan)) (h .answered)

@@ -13,8 +13,8 @@ use Rattle.triggers.proofs.Results.{listing-one}
 use Rattle.log.specs.Promise.{Holding, DueWritten}
 use Rattle.log.proofs.Held.{holding-one}
 use Rattle.log.proofs.Results.{due-written-one}
-use Rattle.planner.specs.Promise.{Planning}
-use Rattle.planner.proofs.Unique.{planning-one}
+use Rattle.planner.specs.Promise.{Planning, Replanning}
+use Rattle.planner.proofs.Unique.{planning-one, replanning-one}
 use Rattle.response.specs.Promise.{Responding}
 use Rattle.response.proofs.Results.{responding-one}
 use Rattle.versions.specs.Promise.{Raising, Lowering}
@@ -62,6 +62,9 @@ module _ {f w x y : List ℕ} where
 module _ (f w d : List ℕ) {e g x y : List ℕ} where
   pub ffy-lists-one : Handed (Listing f w d e) listedWords x → Handed (Listing f w d g) listedWords y → (x ≡ y) × (e ≡ g)
   ffy-lists-one = handed-both (λ r s a b. listing-one f w d a b)
+
+  pub ffy-replan-one : Handed (Replanning f w d e) plannedWords x → Handed (Replanning f w d g) plannedWords y → (x ≡ y) × (e ≡ g)
+  ffy-replan-one = handed-both (λ r s a b. replanning-one a b)
 
 module _ (f w log : List ℕ) (span : ℕ) {x y : List ℕ} where
   pub ffy-hold-one : Handed (Holding f w log span) heldWords x → Handed (Holding f w log span) heldWords y → x ≡ y

@@ -18,7 +18,8 @@ ghost use Rattle.writer.specs.Promise.{Writing};
 ghost use Rattle.judge.specs.Promise.{Judging};
 ghost use Rattle.triggers.specs.Promise.{Listing};
 ghost use Rattle.log.specs.Promise.{Holding, DueWritten};
-ghost use Rattle.planner.specs.Promise.{Planning};
+ghost use Rattle.planner.specs.Answer as ofPlanner;
+ghost use Rattle.planner.specs.Promise.{Planning, Replanning};
 ghost use Rattle.response.specs.Promise.{Responding};
 ghost use Rattle.versions.specs.Answer.{countOf};
 ghost use Rattle.versions.specs.Promise.{Raising, Lowering};
@@ -177,16 +178,30 @@ pub extern "C" fn ffy_due(
     }
 }
 
-// planner::plan; the figure is how many words of the proposal were written.
-#[no_mangle]
-pub extern "C" fn ffy_plan(file: &[u8], proposal: &mut [u32], answer: &mut [u32; 8])
-    ensures { λ _. ⌜ Handed (Planning (now (file .entry)) (now (proposal .entry)) (now (proposal .exit))) plannedWords (now (answer .exit)) ⌝ }
+// Stores the answer of the planner; the figure is how many words of the proposal were written.
+fn store_planned(answer: &mut [u32; 8], got: Planned)
+    requires { ⌜ ofPlanner.countOf got < 4294967296 ⌝ }
+    ensures { λ _. ⌜ now (answer .exit) ≡ plannedWords got ⌝ }
 {
-    let got = planner::plan(file, proposal);
     match got {
         Planned::Proposal(n) => wrote(answer, n),
         Planned::Refused(q) => refuse(answer, q),
     }
+}
+
+// planner::plan, and planner::replan.
+#[no_mangle]
+pub extern "C" fn ffy_plan(file: &[u8], proposal: &mut [u32], answer: &mut [u32; 8])
+    ensures { λ _. ⌜ Handed (Planning (now (file .entry)) (now (proposal .entry)) (now (proposal .exit))) plannedWords (now (answer .exit)) ⌝ }
+{
+    store_planned(answer, planner::plan(file, proposal));
+}
+
+#[no_mangle]
+pub extern "C" fn ffy_replan(file: &[u8], kept: &[u32], proposal: &mut [u32], answer: &mut [u32; 8])
+    ensures { λ _. ⌜ Handed (Replanning (now (file .entry)) (now (kept .entry)) (now (proposal .entry)) (now (proposal .exit))) plannedWords (now (answer .exit)) ⌝ }
+{
+    store_planned(answer, planner::replan(file, kept, proposal));
 }
 
 // response::responses; the figure is how many events miss their deadlines.

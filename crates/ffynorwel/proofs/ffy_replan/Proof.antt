@@ -1,0 +1,22 @@
+-- The answer that was given is the one that is stored; its count fits a word.
+use mathlib.Core.Path.{refl}
+use Rattle.ffynorwel.proofs.Counts.{replan-fits}
+use Rattle.ffynorwel.proofs.Handed.{handed}
+use borrow.Author.Needs.{needs}
+use Rattle.ffynorwel.proofs.ffy_replan.Statement.{statement}
+use Rattle.ffynorwel.proofs.ffy_replan.Tie as tie
+
+store-planned-requires : tie.Need-store-planned-requires
+store-planned-requires c κs = replan-fits _ (c .before .before .replan .ensures)
+
+returns : tie.Need-returns
+returns c = handed (c .before .before .before .replan .ensures) refl (c .store-planned .ensures)
+
+pub ffy-replan-spec : {M : Type 1} → statement M
+ffy-replan-spec =
+    tie.close
+    (tie.spec
+    (λ c κs. search needs)
+    store-planned-requires
+    (λ c. search needs)
+    returns)
