@@ -34,6 +34,8 @@ const UP: u8 = 9;
 
 const BACK: u8 = 10;
 
+const REPLAN: u8 = 11;
+
 // Each byte that is lent, before a call.
 pub const BYTE_PATTERN: u8 = 0xA5;
 
@@ -50,7 +52,7 @@ const FIGURE: usize = 3;
 
 // Whether a record's call is one of these.
 pub fn is_call(call: u8) -> bool {
-    ((READ <= call) & (call <= JUDGE)) | ((LISTS <= call) & (call <= BACK))
+    ((READ <= call) & (call <= JUDGE)) | ((LISTS <= call) & (call <= REPLAN))
 }
 
 // Whether a call takes a log and writes nothing.
@@ -156,9 +158,8 @@ fn list(file: &[u8], proposal: &[u32], words: &mut [u32]) -> [u64; NUMBERS] {
     }
 }
 
-// Call 6: the least acceptable proposal.
-fn plan(file: &[u8], proposal: &mut [u32]) -> [u64; NUMBERS] {
-    let got = planner::plan(file, proposal);
+// What came of planning: call 6 for the least acceptable proposal, 11 for the least that keeps what is kept.
+fn planned(got: Planned) -> [u64; NUMBERS] {
     match got {
         Planned::Proposal(n) => done(n),
         Planned::Refused(q) => refused(q),
@@ -239,6 +240,7 @@ fn run_bytes(
 }
 
 // Runs a call by its number. Input A is there both as bytes and as words, and so is the buffer that is lent; each call takes the ones it is made for.
+// List B is the proposal, for call 11 what is kept of one.
 pub fn run(
     call: u8,
     file: &[u8],
@@ -254,7 +256,8 @@ pub fn run(
         READ => read(file, output),
         JUDGE => judge(file, proposal),
         LISTS => list(file, proposal, output),
-        PLAN => plan(file, output),
+        PLAN => planned(planner::plan(file, output)),
+        REPLAN => planned(planner::replan(file, proposal, output)),
         _ => respond(words, output),
     }
 }
@@ -271,6 +274,7 @@ pub fn name(call: u8) {
         HOLD => paper::text(b"hold"),
         UP => paper::text(b"up"),
         BACK => paper::text(b"back"),
+        REPLAN => paper::text(b"replan"),
         _ => {
             paper::text(b"call ");
             paper::number(basics::byte(call));
