@@ -45,16 +45,15 @@ fn allowed_in(p: &[u32], taken: &[u32; words::MOST_ROWS], j: usize, step: usize,
     ensures { λ x. ⌜ Allowed (now (p .entry)) (now (taken .entry)) j r x ⌝ }
 {
     let columns = words::columns_of(p);
-    let busy = row_words::seen_in(taken, words::rows_of(p), step, r);
     let mut x: u32 = 0;
     let mut c = 0;
     while c < columns {
-        if !basics::has_bit(busy, c as u32) & may_stand(p, j, step, c, r) {
+        if may_stand(p, j, step, c, r) {
             x = basics::with_bit(x, c as u32);
         }
         c += 1;
     }
-    x
+    row_words::free_in(taken, words::rows_of(p), step, r, x)
 }
 
 // The columns in which each message may stand with each base row, as a table.

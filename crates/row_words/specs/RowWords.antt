@@ -8,7 +8,7 @@ use lib.ListN.{length, getD}
 use Rattle.basics.specs.Bits.{Has, Joined}
 use Rattle.basics.specs.Strides.{Strode}
 use Rattle.rules.specs.Cells.{Here}
-use Rattle.rules.specs.Problem.{mostRows, rows}
+use Rattle.rules.specs.Problem.{mostRows, mostColumns, rows}
 
 -- one of the first n messages has the cell of row i and column c
 pub record Taken (p w : List ℕ) (n i c : ℕ) : Type 0 where
@@ -28,10 +28,17 @@ pub record SetBefore (t : List ℕ) (c r step rows : ℕ) : Type 0 where
   pub low : r + turn * step < rows
   pub set : Has (getD t (r + turn * step) 0) c
 
--- x has exactly the columns that were
-pub record SeenIn (t : List ℕ) (r step rows x : ℕ) : Type 0 where
-  pub only : (c : ℕ) → Has x c → SetBefore t c r step rows
-  pub all : (c : ℕ) → SetBefore t c r step rows → Has x c
+-- z has exactly the columns of x that y does not have
+pub record Without (x y z : ℕ) : Type 0 where
+  pub keeps : (c : ℕ) → c < mostColumns → Has x c → (Has y c → ⊥) → Has z c
+  pub only : (c : ℕ) → Has z c → Has x c
+  pub gone : (c : ℕ) → c < mostColumns → Has z c → Has y c → ⊥
+
+-- y has exactly the columns of x that were not
+pub record FreeIn (t : List ℕ) (r step rows x y : ℕ) : Type 0 where
+  pub keeps : (c : ℕ) → c < mostColumns → Has x c → (SetBefore t c r step rows → ⊥) → Has y c
+  pub only : (c : ℕ) → Has y c → Has x c
+  pub unset : (c : ℕ) → c < mostColumns → Has y c → SetBefore t c r step rows → ⊥
 
 -- t′ is t with it set there, and nowhere else; b says whether it was before
 pub record Occupied (t : List ℕ) (c r step rows : ℕ) (t′ : List ℕ) (b : Bool) : Type 0 where

@@ -4,7 +4,7 @@ ghost use mathlib.Core.Path.{_≡_};
 ghost use Prim.Native.Nat.{_<_, _≤_};
 ghost use lib.ListN.{length};
 ghost use Rattle.rules.specs.Problem.{mostRows, mostColumns};
-ghost use Rattle.row_words.specs.RowWords.{SeenIn, Occupied};
+ghost use Rattle.row_words.specs.RowWords.{Without, FreeIn, Occupied};
 
 // Sets column c in the rows r, r + step, r + 2 step and so on. Whether it was set in one of them before.
 pub fn occupy(
@@ -31,16 +31,23 @@ pub fn occupy(
     basics::has_bit(seen, column)
 }
 
-// The columns that are set in one of the rows r, r + step, r + 2 step and so on.
-pub fn seen_in(taken: &[u32; words::MOST_ROWS], rows: usize, step: usize, r: usize) -> u32
-    requires { ⌜ (rows ≤ mostRows) × (1 ≤ step) × (step ≤ mostRows) × (r < mostRows) ⌝ }
-    ensures { λ x. ⌜ SeenIn (now (taken .entry)) r step rows x ⌝ }
+// The columns of x that y does not have.
+fn without(x: u32, y: u32) -> u32
+    ensures { λ z. ⌜ Without x y z ⌝ }
 {
-    let mut seen: u32 = 0;
+    x & !y
+}
+
+// The columns of x that are set in none of the rows r, r + step, r + 2 step and so on.
+pub fn free_in(taken: &[u32; words::MOST_ROWS], rows: usize, step: usize, r: usize, x: u32) -> u32
+    requires { ⌜ (rows ≤ mostRows) × (1 ≤ step) × (step ≤ mostRows) × (r < mostRows) ⌝ }
+    ensures { λ y. ⌜ FreeIn (now (taken .entry)) r step rows x y ⌝ }
+{
+    let mut free = x;
     let mut row = r;
     while row < rows {
-        seen = seen | taken[row];
+        free = without(free, taken[row]);
         row += step;
     }
-    seen
+    free
 }
