@@ -1,4 +1,5 @@
 // The largest matrix, full, and buses that are wanted whole, or more than that.
+use rules::words::MOST_PROPOSAL;
 use rules::words::MOST_WORDS;
 use trial::build;
 use trial::moving;
@@ -28,6 +29,9 @@ const REFERENCE: u32 = 65;
 
 // How wide each column is.
 const WIDTH: u32 = 2045;
+
+// The word that stands twice for a message without a placement to keep.
+const FREE: u32 = kept::NONE as u32;
 
 // The nodes that receive what a node sends: the next six.
 fn receivers(node: usize) -> u32 {
@@ -108,6 +112,29 @@ fn full() {
     );
 }
 
+// The full matrix planned again with its first messages free: 17 are too many, 16 get back the one part that the others leave.
+fn again(problem: &[u32], proposal: &[u8]) {
+    let mut kept = [0u32; MOST_PROPOSAL];
+    let n = build::words(proposal, &mut kept);
+    build::put(&[FREE; 34], 0, &mut kept);
+    show::replan(
+        b"the same with 17 messages free",
+        problem,
+        show::front(&kept, n),
+        [15, 0, 0],
+        b"",
+    );
+    build::words(proposal, &mut kept);
+    build::put(&[FREE; 32], 0, &mut kept);
+    show::replan(
+        b"the same with 16 messages free",
+        problem,
+        show::front(&kept, n),
+        show::NONE,
+        proposal,
+    );
+}
+
 // Two messages fill each column.
 fn full_matrix(problem: &[u32], proposal: &[u8]) {
     show::accepted(
@@ -123,6 +150,7 @@ fn full_matrix(problem: &[u32], proposal: &[u8]) {
         15,
         b"",
     );
+    again(problem, proposal);
 }
 
 // Each node sends 4 messages and receives 24. The text goes as far as node 0's list.

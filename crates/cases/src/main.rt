@@ -1,4 +1,5 @@
 // The cases that the documents work by hand, the limits and crowded problems, each run and compared.
+mod again;
 mod crowded;
 mod document_000;
 mod document_001;
@@ -16,6 +17,7 @@ fn main() {
     document_02::run();
     places::run();
     moves::run();
+    again::run();
     document_000::run();
     document_001::run();
     document_003::run();

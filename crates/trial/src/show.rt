@@ -166,6 +166,14 @@ pub fn refused(title: &[u8], problem: &[u32], proposal: &[u8], wanted: [u32; 3])
     judge(title, problem, proposal, wanted, b"");
 }
 
+// Shows what came of planning, the proposal in the front of its buffer, where the document wants these words or this refusal.
+fn end_planned(got: Planned, proposal: &[u32], wanted: [u32; 3], wanted_plan: &[u8]) {
+    match got {
+        Planned::Proposal(n) => end_words(front(proposal, n), wanted[0], wanted_plan),
+        Planned::Refused(q) => end_refused(q, wanted),
+    }
+}
+
 // A problem planned: the proposal that the document wants, or the number of the refusal.
 pub fn plan(title: &[u8], problem: &[u32], number: u32, wanted: &[u8]) {
     let mut file = [0u8; problem::MOST_BYTES];
@@ -173,10 +181,7 @@ pub fn plan(title: &[u8], problem: &[u32], number: u32, wanted: &[u8]) {
     let mut proposal = [0u32; planner::PLAN_WORDS];
     start(title, b", planned: ");
     let got = planner::plan(&file[..n], &mut proposal);
-    match got {
-        Planned::Proposal(m) => end_words(front(&proposal, m), number, wanted),
-        Planned::Refused(q) => end_refused(q, [number, 0, 0]),
-    }
+    end_planned(got, &proposal, [number, 0, 0], wanted);
 }
 
 // The same of a problem that stands as text.
@@ -191,6 +196,16 @@ pub fn plan_text(
     let mut p = [0u32; MOST_WORDS];
     let n = build::problem(header, columns, messages, &mut p);
     plan(title, &p[..n], number, wanted);
+}
+
+// A problem planned again with placements to keep: the refusal that the document wants, or the proposal where that is none.
+pub fn replan(title: &[u8], problem: &[u32], kept: &[u32], wanted: [u32; 3], wanted_plan: &[u8]) {
+    let mut file = [0u8; problem::MOST_BYTES];
+    let n = file_of(problem, &mut file);
+    let mut proposal = [0u32; rules::words::MOST_PROPOSAL];
+    start(title, b", planned again: ");
+    let got = planner::replan(&file[..n], kept, &mut proposal);
+    end_planned(got, &proposal, wanted, wanted_plan);
 }
 
 // Shows trigger lists by how many words they are and their 16 counts, where the document wants so many words that start with those of a text.
