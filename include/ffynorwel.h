@@ -2,7 +2,7 @@
 
    A slice is a pointer and the number of its elements. A pointer is never null, not even of an empty slice; buffers that a call
    writes overlap nothing else that it is given. A call keeps nothing and may be called from any thread. It takes no memory but
-   stack: ffy_plan up to 120,000 bytes, every other call less than 6,000.
+   stack: ffy_plan and ffy_replan up to 120,000 bytes, every other call less than 6,000.
 
    Each call stores its answer in eight words:
      answer[0]      number: 0 is done, any other a refusal
