@@ -84,15 +84,30 @@ fn word_end(text: &[u8], from: usize) -> usize
     i
 }
 
-// Puts the words of a text into the front of a buffer.
+// The number that a word writes; a dash stands for the number that is given for it.
+fn value_of(word: &[u8], dash: u64) -> u64 {
+    if is_same(word, b"-") {
+        return dash;
+    }
+    number(word)
+}
+
+// Puts the words of a text into the front of a buffer, all of them numbers.
 pub fn parse(text: &[u8], words: &mut [u32]) -> Parsed
+    ensures { λ r. ⌜ Taken (now (text .entry)) (now (words .exit)) (r .count) (r .at) ⌝ }
+{
+    parse_with(text, words, NO_NUMBER)
+}
+
+// Puts the words of a text into the front of a buffer, where a dash stands for a number; for NO_NUMBER if it is to be no word.
+pub fn parse_with(text: &[u8], words: &mut [u32], dash: u64) -> Parsed
     ensures { λ r. ⌜ Taken (now (text .entry)) (now (words .exit)) (r .count) (r .at) ⌝ }
 {
     let mut count: usize = 0;
     let mut at = next_word(text, 0);
     while at < text.len() {
         let end = word_end(text, at);
-        let value = number(&text[at..end]);
+        let value = value_of(&text[at..end], dash);
         if NO_NUMBER <= value {
             break;
         }

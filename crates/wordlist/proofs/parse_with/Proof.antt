@@ -6,17 +6,17 @@ use native.Mathlib.Omega.{arith}
 use lib.ListN.{length, length-set}
 use Rattle.wordlist.proofs.Places.{taken}
 use borrow.Author.Needs.{needs}
-use Rattle.wordlist.proofs.parse.Statement.{statement}
-use Rattle.wordlist.proofs.parse.Tie as tie
+use Rattle.wordlist.proofs.parse_with.Statement.{statement}
+use Rattle.wordlist.proofs.parse_with.Tie as tie
 
 abbrev Inv-loop : tie.InvT-loop
-Inv-loop text words₀ count₀ at₀ words count at = (count ≤ length words) × (length words ≡ length words₀) × (at ≤ length text)
+Inv-loop text words₀ dash count₀ at₀ words count at = (count ≤ length words) × (length words ≡ length words₀) × (at ≤ length text)
 
 abbrev μ-loop : tie.MeasureT-loop
-μ-loop text words₀ count₀ at₀ words count at = length text - at
+μ-loop text words₀ dash count₀ at₀ words count at = length text - at
 
-pub parse-spec : {M : Type 1} → statement M
-parse-spec =
+pub parse-with-spec : {M : Type 1} → statement M
+parse-with-spec =
     tie.close
     (tie.spec
     Inv-loop
