@@ -1,17 +1,21 @@
 // The commands: what each is given and what it answers. The first word on standard output is done, accepted, clean, differs or refused.
 use super::example;
+use super::extending;
 use super::holding;
+use super::listing;
 use files::input;
+use files::input::Use;
 use files::output;
 use judge::Judged;
 use planner::answer::Planned;
 use problem::Layout;
 use problem::layout::version_of;
 use problem::recast::column_words;
+use reasons::Subject;
 use response::Responded;
-use triggers::Listed;
 use versions::Moved;
 use views::matrix;
+use views::matrix::Form;
 use views::tables;
 ghost use Rattle.rules.specs.Problem.{WellFormed};
 
@@ -23,6 +27,8 @@ enum Command {
     Show,
     Check,
     Plan,
+    Replan,
+    Extend,
     Losses,
     Lists,
     Hold,
@@ -73,18 +79,18 @@ fn present(view: View, layout: Layout, p: &[u32], w: &[u32])
         View::Verdict => {}
         View::Problem => {
             show_problem(layout, p);
-            matrix::show(p, w, false);
+            matrix::show(p, w, &[], Form::Windows);
         }
         View::Words => tables::problem_words(p, column_words(layout)),
         View::Proposal => tables::proposal_words(p, w),
         View::Matrix => {
             show_problem(layout, p);
-            matrix::show(p, w, true);
+            matrix::show(p, w, &[], Form::Matrix);
             paper::end_line();
         }
         View::Example => {
             paper::line(b"Document 003's example, planned; identifiers in hexadecimal");
-            matrix::show(p, w, true);
+            matrix::show(p, w, &[], Form::Matrix);
             paper::end_line();
         }
     }
@@ -104,7 +110,7 @@ fn show(view: View, file: &[u8], w: &[u32]) {
 fn show_proposal(view: View, file: &[u8], w: &[u32]) {
     let got = judge::judge(file, w);
     match got {
-        Judged::Refused(q) => reasons::of_file(q, file, w),
+        Judged::Refused(q) => reasons::of_file(q, file, w, Subject::Given),
         Judged::Accepted(t) => {
             show(view, file, w);
             tables::bus_time(t);
@@ -112,39 +118,29 @@ fn show_proposal(view: View, file: &[u8], w: &[u32]) {
     }
 }
 
-// Fills a buffer with the trigger lists, or says why there are none.
-fn fill_lists(file: &[u8], w: &[u32], lists: &mut [u32; triggers::MOST_WORDS]) -> bool {
-    let got = triggers::lists(file, w, lists);
+// Shows what the planner wrote as a word list, which can be checked as it stands, or why it refuses a problem and placements to keep.
+fn show_planned(got: Planned, proposal: &[u32], file: &[u8], kept: &[u32], subject: Subject) {
     match got {
-        Listed::Refused(q) => {
-            reasons::of_file(q, file, w);
-            false
-        }
-        Listed::Lists(_) => true,
-    }
-}
-
-// The list of one node, or of all if there is no such node.
-fn show_lists(file: &[u8], w: &[u32], node: usize) {
-    let mut lists = [0u32; triggers::MOST_WORDS];
-    let is_done = fill_lists(file, w, &mut lists);
-    if is_done {
-        paper::line(b"done");
-        tables::lists(&lists, node);
-    }
-}
-
-// Shows the least acceptable proposal as a word list, which can be checked as it stands.
-fn plan(file: &[u8]) {
-    let mut proposal = [0u32; planner::PLAN_WORDS];
-    let got = planner::plan(file, &mut proposal);
-    match got {
-        Planned::Refused(q) => reasons::of_file(q, file, &[]),
+        Planned::Refused(q) => reasons::of_file(q, file, kept, subject),
         Planned::Proposal(n) => {
-            let n = input::within(n, &proposal);
+            let n = input::within(n, proposal);
             show(View::Proposal, file, &proposal[..n]);
         }
     }
+}
+
+// Shows the least acceptable proposal.
+fn plan(file: &[u8]) {
+    let mut proposal = [0u32; planner::PLAN_WORDS];
+    let got = planner::plan(file, &mut proposal);
+    show_planned(got, &proposal, file, &[], Subject::Given);
+}
+
+// Shows the least acceptable proposal that keeps what is to be kept.
+fn replan(file: &[u8], kept: &[u32]) {
+    let mut proposal = [0u32; rules::words::MOST_PROPOSAL];
+    let got = planner::replan(file, kept, &mut proposal);
+    show_planned(got, &proposal, file, kept, Subject::Kept);
 }
 
 // The word that the exit status is taken from: whether all deadlines are met.
@@ -176,7 +172,7 @@ fn show_times(events: &[u32]) {
 // A command on a problem.
 fn on_problem(command: Command) {
     let mut bytes = io::large_buffer();
-    let got = input::problem(2, &mut bytes);
+    let got = input::problem(2, &mut bytes, Subject::Given);
     if !got.is_good {
         return;
     }
@@ -188,15 +184,23 @@ fn on_problem(command: Command) {
     }
 }
 
-// A command on a problem and a proposal; the number is the node of the lists, or the span of a log.
+// What the words beside a problem are read for.
+fn use_of(command: Command) -> Use {
+    match command {
+        Command::Replan => Use::Kept,
+        _ => Use::List,
+    }
+}
+
+// A command on a problem and a proposal, or placements to keep; the number is the node of the lists, or the span of a log.
 fn on_proposal(command: Command, number: u32) {
     let mut bytes = io::large_buffer();
-    let got = input::problem(2, &mut bytes);
+    let got = input::problem(2, &mut bytes, Subject::Given);
     if !got.is_good {
         return;
     }
     let mut words = [0u32; input::LIST_WORDS];
-    let told = input::words(3, &mut words);
+    let told = input::words(3, &mut words, use_of(command));
     if !told.is_good {
         return;
     }
@@ -204,7 +208,8 @@ fn on_proposal(command: Command, number: u32) {
     let k = told.count;
     match command {
         Command::Check => show_proposal(View::Verdict, &bytes[..n], &words[..k]),
-        Command::Lists => show_lists(&bytes[..n], &words[..k], basics::wide(number)),
+        Command::Replan => replan(&bytes[..n], &words[..k]),
+        Command::Lists => listing::show(b"done", &bytes[..n], &words[..k], basics::wide(number)),
         Command::Hold => holding::hold_file(&bytes[..n], &words[..k], number),
         Command::Due => holding::show_due(&bytes[..n], &words[..k], number),
         _ => show_proposal(View::Matrix, &bytes[..n], &words[..k]),
@@ -238,7 +243,7 @@ fn on_span(command: Command, i: usize) {
 // The response times of events.
 fn on_events() {
     let mut words = [0u32; input::LIST_WORDS];
-    let got = input::words(2, &mut words);
+    let got = input::words(2, &mut words, Use::List);
     if !got.is_good {
         return;
     }
@@ -249,13 +254,13 @@ fn on_events() {
 // The file of a problem's words: a line that says done, and behind it the bytes.
 fn on_words() {
     let mut words = [0u32; input::LIST_WORDS];
-    let got = input::words(2, &mut words);
+    let got = input::words(2, &mut words, Use::List);
     if !got.is_good {
         return;
     }
     let n = got.count;
     let mut bytes = [0u8; problem::MOST_BYTES];
-    let told = input::written(&words[..n], &mut bytes);
+    let told = input::written(&words[..n], &mut bytes, Subject::Given);
     if !told.is_good {
         return;
     }
@@ -286,7 +291,7 @@ fn moved(file: &[u8], layout: Layout, out: &mut [u8]) -> Moved {
 // A problem moved to a version.
 fn on_move(layout: Layout) {
     let mut bytes = io::large_buffer();
-    let got = input::problem(2, &mut bytes);
+    let got = input::problem(2, &mut bytes, Subject::Given);
     if !got.is_good {
         return;
     }
@@ -294,7 +299,7 @@ fn on_move(layout: Layout) {
     let mut out = [0u8; problem::MOST_BYTES];
     let told = moved(&bytes[..n], layout, &mut out);
     match told {
-        Moved::Refused(q) => reasons::of_file(q, &bytes[..n], &[]),
+        Moved::Refused(q) => reasons::of_file(q, &bytes[..n], &[], Subject::Given),
         Moved::File(k) => {
             let k = input::within_bytes(k, &out);
             keep(&out[..k], layout);
@@ -308,7 +313,7 @@ fn on_example() {
     let got = example::words(&mut words);
     let n = got.count;
     let mut bytes = [0u8; problem::MOST_BYTES];
-    let told = input::written(&words[..n], &mut bytes);
+    let told = input::written(&words[..n], &mut bytes, Subject::Given);
     if !told.is_good {
         return;
     }
@@ -321,29 +326,19 @@ fn show_example(file: &[u8]) {
     let mut proposal = [0u32; planner::PLAN_WORDS];
     let got = planner::plan(file, &mut proposal);
     match got {
-        Planned::Refused(q) => reasons::of_file(q, file, &[]),
+        Planned::Refused(q) => reasons::of_file(q, file, &[], Subject::Given),
         Planned::Proposal(n) => {
             let n = input::within(n, &proposal);
             show_proposal(View::Example, file, &proposal[..n]);
-            show_first_list(file, &proposal[..n]);
+            listing::show(b"", file, &proposal[..n], 0);
         }
-    }
-}
-
-// Shows the list of node 0 behind what has been shown.
-fn show_first_list(file: &[u8], w: &[u32]) {
-    let mut lists = [0u32; triggers::MOST_WORDS];
-    let is_done = fill_lists(file, w, &mut lists);
-    if is_done {
-        paper::end_line();
-        tables::lists(&lists, 0);
     }
 }
 
 // ---- the program
 
-// The command that the first argument names.
-fn command_named(name: &[u8]) -> Command {
+// The command on plans that the first argument names.
+fn plan_command_named(name: &[u8]) -> Command {
     if wordlist::is_same(name, b"show") {
         return Command::Show;
     }
@@ -352,6 +347,12 @@ fn command_named(name: &[u8]) -> Command {
     }
     if wordlist::is_same(name, b"plan") {
         return Command::Plan;
+    }
+    if wordlist::is_same(name, b"replan") {
+        return Command::Replan;
+    }
+    if wordlist::is_same(name, b"extend") {
+        return Command::Extend;
     }
     if wordlist::is_same(name, b"losses") {
         return Command::Losses;
@@ -365,6 +366,11 @@ fn command_named(name: &[u8]) -> Command {
     if wordlist::is_same(name, b"due") {
         return Command::Due;
     }
+    Command::Unknown
+}
+
+// The command that the first argument names.
+fn command_named(name: &[u8]) -> Command {
     if wordlist::is_same(name, b"times") {
         return Command::Times;
     }
@@ -383,17 +389,17 @@ fn command_named(name: &[u8]) -> Command {
     if wordlist::is_same(name, b"help") {
         return Command::Help;
     }
-    Command::Unknown
+    plan_command_named(name)
 }
 
 // Whether a command takes so many arguments, the program's name and its own among them.
 fn takes(command: Command, arguments: usize) -> bool {
     match command {
         Command::Show => (arguments == 3) | (arguments == 4),
-        Command::Check | Command::Up | Command::Back => arguments == 4,
+        Command::Check | Command::Replan | Command::Up | Command::Back => arguments == 4,
         Command::Lists => (arguments == 4) | (arguments == 5),
         Command::Hold => arguments == 6,
-        Command::Due => arguments == 5,
+        Command::Extend | Command::Due => arguments == 5,
         Command::Help => arguments == 2,
         Command::Losses | Command::Unknown => false,
         _ => arguments == 3,
@@ -406,6 +412,8 @@ fn say_usage(command: Command) {
         Command::Show => paper::say(b"ttplan: use: ttplan show FILE [PROPOSAL]\n"),
         Command::Check => paper::say(b"ttplan: use: ttplan check FILE PROPOSAL\n"),
         Command::Plan => paper::say(b"ttplan: use: ttplan plan FILE\n"),
+        Command::Replan => paper::say(b"ttplan: use: ttplan replan FILE KEPT\n"),
+        Command::Extend => paper::say(b"ttplan: use: ttplan extend NEW OLD OLDPLAN\n"),
         Command::Losses => paper::say(
             b"ttplan: losses is no command of its own any more: ttplan check FILE PROPOSAL shows them\n",
         ),
@@ -419,7 +427,7 @@ fn say_usage(command: Command) {
         Command::Back => paper::say(b"ttplan: use: ttplan back FILE OUT\n"),
         Command::Help => paper::say(b"ttplan: use: ttplan help\n"),
         Command::Unknown => paper::say(
-            b"ttplan: no such command; they are show, check, plan, lists, hold, due, times, words, file, up, back and help\n",
+            b"ttplan: no such command; they are show, check, plan, replan, extend, lists, hold, due, times, words, file, up, back and help\n",
         ),
     }
 }
@@ -433,6 +441,12 @@ fn help() {
     );
     paper::line(b"ttplan check FILE PROPOSAL          accepted and its losses, or refused and why");
     paper::line(b"ttplan plan FILE                    the least acceptable proposal");
+    paper::line(
+        b"ttplan replan FILE KEPT             the least one that keeps the placements in KEPT",
+    );
+    paper::line(
+        b"ttplan extend NEW OLD OLDPLAN       NEW planned so that OLD's messages keep their places",
+    );
     paper::line(b"ttplan lists FILE PROPOSAL [NODE]   the trigger lists of all nodes or one");
     paper::line(b"ttplan hold FILE PROPOSAL LOG SPAN  clean, or where a log of the bus differs");
     paper::line(
@@ -444,9 +458,11 @@ fn help() {
     paper::line(b"ttplan up FILE OUT                  the file of version 2, kept as OUT");
     paper::line(b"ttplan back FILE OUT                the file of version 1, kept as OUT");
     paper::line(
-        b"FILE is a problem file (.tsm) or a word list, of either version; the others are word lists:",
+        b"FILE, NEW and OLD are problem files (.tsm) or word lists, of either version; the others are",
     );
-    paper::line(b"decimal numbers between white space, # begins a comment.");
+    paper::line(
+        b"word lists: decimal numbers between white space, # begins a comment, - in KEPT is none.",
+    );
 }
 
 // Does what the arguments ask for.
@@ -484,6 +500,7 @@ fn obey(command: Command, arguments: usize) {
             }
         }
         Command::Lists => on_lists(arguments),
+        Command::Extend => extending::extend(),
         Command::Hold => on_span(command, 5),
         Command::Due => on_span(command, 4),
         _ => on_proposal(command, ALL_NODES),

@@ -30,13 +30,9 @@ fn bearer_of(p: &[u32], identifier: usize) -> Bearer
     if identifier == words::ref_id_of(p) {
         return Bearer::Reference;
     }
-    let messages = words::messages_of(p);
-    let mut j: usize = 0;
-    while j < messages {
-        if identifier == words::identifier_of(p, j) {
-            return Bearer::Message(j);
-        }
-        j += 1;
+    let j = carried::message_of(p, identifier);
+    if j < words::messages_of(p) {
+        return Bearer::Message(j);
     }
     Bearer::Nothing
 }

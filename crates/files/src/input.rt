@@ -2,6 +2,7 @@
 use problem::HEAD_BYTES;
 use problem::Layout;
 use reader::answer::Read;
+use reasons::Subject;
 use writer::Written;
 ghost use Prim.Native.Nat.{_<_, _≤_};
 ghost use lib.ListN.{length, take};
@@ -71,10 +72,19 @@ fn read(name: &[u8], bytes: &mut [u8]) -> Taken
 
 // ---- word lists
 
-// What a word list is read for. A log has many words, and times among them.
+// What a word list is read for. Placements to keep may be none; a log has many words, and times among them.
 pub enum Use {
     List,
+    Kept,
     Log,
+}
+
+// What a dash stands for: for none among placements to keep, and elsewhere it is no word.
+fn dash(to: Use) -> u64 {
+    match to {
+        Use::Kept => kept::NONE as u64,
+        _ => wordlist::NO_NUMBER,
+    }
 }
 
 // Begins a sentence on standard error with the name of a file.
@@ -83,26 +93,29 @@ pub fn blame(name: &[u8]) {
     paper::say(name);
 }
 
+// That a list has a word too many.
+fn say_full(to: Use) {
+    match to {
+        Use::Log => paper::say(b": more than 422,402 words, where at most 422,400 can be due\n"),
+        _ => paper::say(b": a word list has at most 1,024 words\n"),
+    }
+}
+
 // What is wrong with a word of a list: it is no number, or one too many.
 fn say_wrong(to: Use, is_full: bool) {
-    match to {
-        Use::List => {
-            if is_full {
-                paper::say(b": a word list has at most 1,024 words\n");
-            } else {
-                paper::say(b": not a whole number from 0 to 4,294,967,295\n");
-            }
-        }
-        Use::Log => {
-            if is_full {
-                paper::say(b": more than 422,402 words, where at most 422,400 can be due\n");
-            } else {
-                paper::say(
-                    b": not a whole number from 0 to 4,294,967,295: times are whole network time units (bit times), without a point or a unit\n",
-                );
-            }
-        }
+    if is_full {
+        say_full(to);
+        return;
     }
+    paper::say(b": not a whole number from 0 to 4,294,967,295");
+    match to {
+        Use::List => {}
+        Use::Kept => paper::say(b", and not a - for none"),
+        Use::Log => paper::say(
+            b": times are whole network time units (bit times), without a point or a unit",
+        ),
+    }
+    paper::say(b"\n");
 }
 
 // Says that the word behind a text is no number, or one too many. So many lines are before the text.
@@ -121,7 +134,7 @@ pub fn text_words(name: &[u8], lines: usize, text: &[u8], words: &mut [u32], to:
     requires { ⌜ lines ≤ mostBytes ⌝ }
     ensures { λ r. ⌜ Counts (r .count) (now (words .exit)) ⌝ }
 {
-    let got = wordlist::parse(text, words);
+    let got = wordlist::parse_with(text, words, dash(to));
     let at = got.at;
     let count = got.count;
     if at < text.len() {
@@ -135,7 +148,7 @@ pub fn text_words(name: &[u8], lines: usize, text: &[u8], words: &mut [u32], to:
 }
 
 // The words of the word list that an argument names.
-pub fn words(i: usize, words: &mut [u32]) -> Taken
+pub fn words(i: usize, words: &mut [u32], to: Use) -> Taken
     ensures { λ r. ⌜ Counts (r .count) (now (words .exit)) ⌝ }
 {
     let mut name = io::buffer();
@@ -149,7 +162,7 @@ pub fn words(i: usize, words: &mut [u32]) -> Taken
         };
     }
     let n = got.count;
-    text_words(&name[..k], 0, &bytes[..n], words, Use::List)
+    text_words(&name[..k], 0, &bytes[..n], words, to)
 }
 
 // The number that an argument is, or one too large for a word.
@@ -189,7 +202,7 @@ pub fn decoded(file: &[u8], words: &mut [u32]) -> usize
 {
     let got = reader::decode(file, words);
     let Read::Problem(n) = got else {
-        reasons::of_file(reader::answer::refusal_of(got), file, &[]);
+        reasons::of_file(reader::answer::refusal_of(got), file, &[], Subject::Given);
         return 0;
     };
     n
@@ -204,13 +217,13 @@ pub fn layout(file: &[u8]) -> Layout {
 }
 
 // Writes the file of a problem's words over the bytes lent, or says why they are refused.
-pub fn written(words: &[u32], bytes: &mut [u8]) -> Taken
+pub fn written(words: &[u32], bytes: &mut [u8], subject: Subject) -> Taken
     ensures { λ r. ⌜ Counts (r .count) (now (bytes .exit)) ⌝ }
 {
     let got = writer::write(words, bytes);
     match got {
         Written::Refused(q) => {
-            reasons::of_words(q, words);
+            reasons::of_words(q, words, subject);
             Taken {
                 is_good: false,
                 count: 0,
@@ -225,7 +238,7 @@ pub fn written(words: &[u32], bytes: &mut [u8]) -> Taken
 
 // The problem file that an argument names. A name that ends in .tsm and a file that begins with the mark are problem files;
 // anything else is a word list, of which the file is made here.
-pub fn problem(i: usize, bytes: &mut [u8]) -> Taken
+pub fn problem(i: usize, bytes: &mut [u8], subject: Subject) -> Taken
     ensures { λ r. ⌜ Counts (r .count) (now (bytes .exit)) ⌝ }
 {
     let mut name = io::buffer();
@@ -247,5 +260,5 @@ pub fn problem(i: usize, bytes: &mut [u8]) -> Taken
         };
     }
     let k = told.count;
-    written(&words[..k], bytes)
+    written(&words[..k], bytes, subject)
 }

@@ -8,6 +8,13 @@ mod records;
 use basics::is_outside;
 use rules::Refusal;
 
+// What a sentence speaks of: what a call is given, an old problem and its plan, or placements to keep.
+pub enum Subject {
+    Given,
+    Old,
+    Kept,
+}
+
 // ---- parts of a line
 
 // A rule, and the count that was found.
@@ -36,11 +43,18 @@ fn begin(q: Refusal) {
     paper::text(b", ");
 }
 
+// Says of what is old that it is.
+fn say_old(subject: Subject, thing: &[u8]) {
+    match subject {
+        Subject::Old => paper::text(thing),
+        _ => {}
+    }
+}
+
 // What is said without a number that was found. A refusal that a call does not have is told by its place.
 fn explain(q: Refusal) {
     match q {
         Refusal::Mark => paper::text(b"the file does not begin with the mark TSM"),
-        Refusal::NoPlan => paper::text(b"no acceptable proposal exists"),
         Refusal::Room => paper::text(b"the output is longer than its room"),
         Refusal::Unheld(i) => paper::text_number(
             b"version 1 has no room for the kind of column, else for the identifier of message ",
@@ -55,29 +69,44 @@ fn explain(q: Refusal) {
 
 // ---- lines
 
-// Why a call refused a problem file, with a proposal where it takes one.
-pub fn of_file(q: Refusal, file: &[u8], proposal: &[u32]) {
-    begin(q);
+// What is wrong with a problem file.
+fn problem(q: Refusal, file: &[u8]) {
     match q {
         Refusal::Length => header::file_length(file),
         Refusal::Version => header::version(file),
         Refusal::Header(b) => header::file_number(file, b),
         Refusal::Column(_) | Refusal::Identity(_) | Refusal::Timing(_) | Refusal::Triggers(_) =>
             records::of_file(q, file),
+        _ => explain(q),
+    }
+}
+
+// Why a call refused a problem file, with the words of a proposal or of placements to keep where it takes them.
+pub fn of_file(q: Refusal, file: &[u8], w: &[u32], subject: Subject) {
+    begin(q);
+    match q {
         Refusal::ProposalLength
         | Refusal::Range(_)
         | Refusal::Width(_)
         | Refusal::Late(_)
         | Refusal::Meeting(_, _)
-        | Refusal::TooMany => placements::of_file(q, file, proposal),
-        _ => explain(q),
+        | Refusal::TooMany => {
+            say_old(subject, b"old plan: ");
+            placements::of_file(q, file, w, subject);
+        }
+        Refusal::NoPlan => placements::no_plan(subject),
+        _ => {
+            say_old(subject, b"old problem: ");
+            problem(q, file);
+        }
     }
     paper::end_line();
 }
 
 // Why the writer refused a problem's words.
-pub fn of_words(q: Refusal, words: &[u32]) {
+pub fn of_words(q: Refusal, words: &[u32], subject: Subject) {
     begin(q);
+    say_old(subject, b"old problem: ");
     match q {
         Refusal::Length => header::words_length(words),
         Refusal::Header(b) => header::number(words, b),
@@ -112,7 +141,7 @@ fn log_rule(log_words: usize, span: u32) {
 // Why a log of so many words was refused, or the list of what is due, which has none, for a span of matrix cycles.
 pub fn of_log(q: Refusal, file: &[u8], proposal: &[u32], log_words: usize, span: u32) {
     let Refusal::Log = q else {
-        of_file(q, file, proposal);
+        of_file(q, file, proposal, Subject::Given);
         return;
     };
     begin(q);

@@ -1,4 +1,5 @@
-// What is wrong with a proposal for a problem that is well formed.
+// What is wrong with a proposal for a problem that is well formed, or with placements to keep.
+use super::Subject;
 use super::found_count;
 use super::name;
 use basics::FILL;
@@ -13,8 +14,16 @@ ghost use Prim.Native.Nat.{_<_};
 ghost use Rattle.rules.specs.Problem.{WellFormed, Gives};
 ghost use Rattle.rules.specs.Parts.{Member};
 
-// How many words a proposal for so many messages has.
-fn word_count(p: &[u32], w: &[u32])
+// Words for the placements of messages.
+fn list(subject: Subject) {
+    match subject {
+        Subject::Kept => paper::text(b" a kept list"),
+        _ => paper::text(b" a proposal"),
+    }
+}
+
+// How many words the placements of so many messages have.
+fn word_count(p: &[u32], w: &[u32], subject: Subject)
     requires { ⌜ WellFormed (now p) ⌝ }
 {
     let messages = words::messages_of(p);
@@ -24,14 +33,19 @@ fn word_count(p: &[u32], w: &[u32])
     } else {
         paper::text(b" need");
     }
-    paper::text_count(b" a proposal of ", words::proposal_words(p));
+    list(subject);
+    paper::text_count(b" of ", words::proposal_words(p));
     found_count(b" words", w.len());
 }
 
 // A message of a problem, by its name.
-fn message(p: &[u32], j: usize)
+fn message(p: &[u32], j: usize, subject: Subject)
     requires { ⌜ Member (now p) j ⌝ }
 {
+    match subject {
+        Subject::Kept => paper::text(b"kept "),
+        _ => {}
+    }
     name(b"message ", j, words::identifier_of(p, j));
 }
 
@@ -116,10 +130,10 @@ fn is_given(p: &[u32], w: &[u32], j: usize) -> bool
 }
 
 // What is wrong with message j by itself.
-fn own(q: Refusal, p: &[u32], w: &[u32], j: usize)
+fn own(q: Refusal, p: &[u32], w: &[u32], j: usize, subject: Subject)
     requires { ⌜ Member (now p) j × Gives (now w) j ⌝ }
 {
-    message(p, j);
+    message(p, j, subject);
     match q {
         Refusal::Range(_) => range(p, w, j),
         Refusal::Width(_) => width(p, w, j),
@@ -141,15 +155,15 @@ fn common_row(p: &[u32], w: &[u32], i: usize, j: usize) -> usize
 }
 
 // Message j and the earlier one that it meets, and where.
-fn meeting(p: &[u32], w: &[u32], j: usize, i: usize)
+fn meeting(p: &[u32], w: &[u32], j: usize, i: usize, subject: Subject)
     requires { ⌜ Member (now p) i × Member (now p) j ⌝ }
     requires { ⌜ Gives (now w) i × Gives (now w) j ⌝ }
 {
     let row = common_row(p, w, i, j);
     let column = words::column_of(w, j);
-    message(p, j);
+    message(p, j, subject);
     paper::text(b" meets ");
-    message(p, i);
+    message(p, i, subject);
     paper::text_count(b" in column ", column);
     paper::text_count(b", row ", row);
 }
@@ -157,48 +171,75 @@ fn meeting(p: &[u32], w: &[u32], j: usize, i: usize)
 // ---- all of them
 
 // What is wrong with message j, if there is one.
-fn one(q: Refusal, p: &[u32], w: &[u32], j: usize)
+fn one(q: Refusal, p: &[u32], w: &[u32], j: usize, subject: Subject)
     requires { ⌜ WellFormed (now p) ⌝ }
 {
     if is_given(p, w, j) {
-        own(q, p, w, j);
+        own(q, p, w, j, subject);
     }
 }
 
 // Where messages j and i meet, if there are both.
-fn two(p: &[u32], w: &[u32], j: usize, i: usize)
+fn two(p: &[u32], w: &[u32], j: usize, i: usize, subject: Subject)
     requires { ⌜ WellFormed (now p) ⌝ }
 {
     if is_given(p, w, j) {
         if is_given(p, w, i) {
-            meeting(p, w, j, i);
+            meeting(p, w, j, i, subject);
         }
     }
 }
 
-// What is wrong with a proposal for a well-formed problem, or with the problem for the planner.
-fn of_problem(q: Refusal, p: &[u32], w: &[u32])
+// How many messages have no kept placement.
+fn free_count(p: &[u32], w: &[u32]) -> usize
+    requires { ⌜ WellFormed (now p) ⌝ }
+{
+    if w.len() != words::proposal_words(p) {
+        return 0;
+    }
+    let left = rest::free_of(w, words::messages_of(p));
+    left.count
+}
+
+// More messages than the planner takes: all that there are, or those without a kept placement.
+fn too_many(p: &[u32], w: &[u32], subject: Subject)
+    requires { ⌜ WellFormed (now p) ⌝ }
+{
+    paper::text(b"the planner takes at most 16 messages");
+    match subject {
+        Subject::Kept => found_count(b" without a kept placement", free_count(p, w)),
+        _ => found_count(b"", words::messages_of(p)),
+    }
+}
+
+// That there is no plan, or none with what is kept.
+pub fn no_plan(subject: Subject) {
+    match subject {
+        Subject::Kept => paper::text(b"no acceptable proposal keeps the kept placements"),
+        _ => paper::text(b"no acceptable proposal exists"),
+    }
+}
+
+// What is wrong with placements for a well-formed problem, or with the problem for the planner.
+fn of_problem(q: Refusal, p: &[u32], w: &[u32], subject: Subject)
     requires { ⌜ WellFormed (now p) ⌝ }
 {
     match q {
-        Refusal::ProposalLength => word_count(p, w),
-        Refusal::TooMany => found_count(
-            b"the planner takes at most 16 messages",
-            words::messages_of(p),
-        ),
-        Refusal::Range(j) => one(q, p, w, wide(j)),
-        Refusal::Width(j) => one(q, p, w, wide(j)),
-        Refusal::Late(j) => one(q, p, w, wide(j)),
-        Refusal::Meeting(j, i) => two(p, w, wide(j), wide(i)),
+        Refusal::ProposalLength => word_count(p, w, subject),
+        Refusal::TooMany => too_many(p, w, subject),
+        Refusal::Range(j) => one(q, p, w, wide(j), subject),
+        Refusal::Width(j) => one(q, p, w, wide(j), subject),
+        Refusal::Late(j) => one(q, p, w, wide(j), subject),
+        Refusal::Meeting(j, i) => two(p, w, wide(j), wide(i), subject),
         _ => {}
     }
 }
 
-// What is wrong with a proposal for a problem file.
-pub fn of_file(q: Refusal, file: &[u8], w: &[u32]) {
+// What is wrong with placements for a problem file.
+pub fn of_file(q: Refusal, file: &[u8], w: &[u32], subject: Subject) {
     let mut words = [FILL; words::MOST_WORDS];
     let got = reader::decode(file, &mut words);
     if let Read::Problem(n) = got {
-        of_problem(q, &words[..n], w);
+        of_problem(q, &words[..n], w, subject);
     }
 }

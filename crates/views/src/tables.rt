@@ -241,7 +241,7 @@ fn entry(e: &[u32])
 }
 
 // Where a list ends that begins at a place: behind so many entries of four words, or with the lists.
-fn list_end(lists: &[u32], at: usize, entries: u32) -> usize
+pub fn list_end(lists: &[u32], at: usize, entries: u32) -> usize
     requires { ⌜ at ≤ length (now lists) ⌝ }
     ensures { λ r. ⌜ (at ≤ r) × (r ≤ length (now (lists .entry))) ⌝ }
 {
@@ -253,7 +253,7 @@ fn list_end(lists: &[u32], at: usize, entries: u32) -> usize
 }
 
 // Where the list of a node begins: behind the 16 counts and the lists before it.
-fn list_start(lists: &[u32], node: usize) -> usize
+pub fn list_start(lists: &[u32], node: usize) -> usize
     requires { ⌜ (nodes ≤ length (now lists)) × (node < nodes) ⌝ }
     ensures { λ r. ⌜ r ≤ length (now (lists .entry)) ⌝ }
 {

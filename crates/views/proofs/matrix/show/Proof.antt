@@ -5,10 +5,10 @@ use Rattle.views.proofs.matrix.show.Statement.{statement}
 use Rattle.views.proofs.matrix.show.Tie as tie
 
 abbrev Inv-loop : tie.InvT-loop
-Inv-loop p w has-plan columns size from₀ from = Unit {0}
+Inv-loop p w kept form columns size from₀ from = Unit {0}
 
 abbrev μ-loop : tie.MeasureT-loop
-μ-loop p w has-plan columns size from₀ from = columns - from
+μ-loop p w kept form columns size from₀ from = columns - from
 
 pub show-spec : {M : Type 1} → statement M
 show-spec =

@@ -5,10 +5,10 @@ use Rattle.views.proofs.matrix.show_cells.Statement.{statement}
 use Rattle.views.proofs.matrix.show_cells.Tie as tie
 
 abbrev Inv-loop : tie.InvT-loop
-Inv-loop p w r from to c₀ c = Unit {0}
+Inv-loop p w kept r from to c₀ c = Unit {0}
 
 abbrev μ-loop : tie.MeasureT-loop
-μ-loop p w r from to c₀ c = to - c
+μ-loop p w kept r from to c₀ c = to - c
 
 pub show-cells-spec : {M : Type 1} → statement M
 show-cells-spec =

@@ -5,10 +5,10 @@ use Rattle.views.proofs.matrix.show_rows.Statement.{statement}
 use Rattle.views.proofs.matrix.show_rows.Tie as tie
 
 abbrev Inv-loop : tie.InvT-loop
-Inv-loop p w from to rows r₀ t7 r = r ≤ rows
+Inv-loop p w kept form from to rows r₀ t7 r = r ≤ rows
 
 abbrev μ-loop : tie.MeasureT-loop
-μ-loop p w from to rows r₀ t7 r = rows - r
+μ-loop p w kept form from to rows r₀ t7 r = rows - r
 
 pub show-rows-spec : {M : Type 1} → statement M
 show-rows-spec =
