@@ -98,6 +98,8 @@ says 1 'deadlines missed: 1' times $e/events.words
 says 0 'ttplan check FILE PROPOSAL' help
 says 0 'ttplan hold FILE PROPOSAL LOG SPAN' help
 says 0 'ttplan up FILE OUT' help
+says 0 'ttplan replan FILE KEPT' help
+says 0 'ttplan extend NEW OLD OLDPLAN' help
 run help
 ! grep -q '^ttplan losses' "$scratch/out"
 verdict 'ttplan help does not name losses'
@@ -423,6 +425,170 @@ run due "$scratch/full.words" "$scratch/full.plan" 100
 cp "$scratch/out" "$scratch/long"
 answers 0 'clean: 211200 sends in 100 matrix cycles' hold "$scratch/full.words" "$scratch/full.plan" "$scratch/long" 100
 
+printf '%s\n' '-- planned again with placements that are kept'
+kept=$scratch/kept
+
+# words_of FILE: its words on one line, without the comments.
+words_of() {
+    sed 's/#.*//' "$1" | xargs
+}
+
+# replanned KEPT PLAN: with these placements kept T1 has this plan, and it is accepted.
+replanned() {
+    echo "$1" >"$kept"
+    run replan $e/t1.tsm "$kept"
+    [ "$status" -eq 0 ] && [ ! -s "$scratch/err" ] && [ "$(words_of "$scratch/out")" = "$2" ] && ./ttplan check $e/t1.tsm "$scratch/out" >"$scratch/checked"
+    verdict "ttplan replan with $1 gives $2, and check accepts it"
+}
+
+# kept_refused KEPT TEXT: T1 with these placements kept is refused with this text.
+kept_refused() {
+    echo "$1" >"$kept"
+    answers 1 "refused $2" replan $e/t1.words "$kept"
+}
+
+echo '- - - - - -' >"$kept"
+run replan $e/t1.words "$kept"
+[ "$status" -eq 0 ] && cmp -s "$scratch/out" $e/t1.plan
+verdict "ttplan replan with nothing kept is $e/t1.plan"
+replanned '- - - - 2 1 # the last message stays' '0 0 1 1 2 1'
+replanned '- - - - 2 0' '0 0 1 1 2 0'
+replanned '4294967295 4294967295 1 1 - -' '0 0 1 1 1 0'
+replanned '0 0 1 1 2 1' '0 0 1 1 2 1'
+kept_refused '0 0 1 1 1' '9, 3 messages need a kept list of 6 words, found 5'
+kept_refused '- - -' '9, 3 messages need a kept list of 6 words, found 3'
+kept_refused '0 0 1 1 3 0' '10, kept message 2 (identifier 48): the column must be 0 to 2, found 3'
+kept_refused '- - 1 2 - -' '10, kept message 1 (identifier 32): the base row must be 0 to 1, found 2'
+kept_refused '- 0 - - - -' '10, kept message 0 (identifier 16): the column must be 0 to 2, found 4294967295'
+kept_refused '0 0 1 - - -' '10, kept message 1 (identifier 32): the base row must be 0 to 1, found 4294967295'
+kept_refused '1 0 - - - -' '11, kept message 0 (identifier 16): its frame takes 135, and column 1 is 100 wide'
+kept_refused '- - 1 0 - -' '12, kept message 1 (identifier 32) in column 1, base row 0: it waits 600 and its frame takes 65, 665 in all, and its deadline is 300'
+kept_refused '0 0 - - 0 1' '13, kept message 2 (identifier 48) meets kept message 0 (identifier 16) in column 0, row 1'
+kept_refused '- - - - 1 1' '14, no acceptable proposal keeps the kept placements'
+for i in $(seq 17); do echo - -; done >"$kept"
+answers 1 'refused 15, the planner takes at most 16 messages without a kept placement, found 17' replan "$scratch/many.words" "$kept"
+(echo 0 0 && tail -n +2 "$kept") >"$scratch/one-kept"
+answers 1 'refused 14, no acceptable proposal keeps the kept placements' replan "$scratch/many.words" "$scratch/one-kept"
+(head -n 48 "$scratch/full.plan" && for i in $(seq 16); do echo - -; done) >"$kept"
+run replan "$scratch/full.words" "$kept"
+[ "$status" -eq 0 ] && [ "$(words_of "$scratch/out")" = "$(words_of "$scratch/full.plan")" ]
+verdict 'ttplan replan plans 16 of 64 messages'
+edited 2 64
+answers 1 'refused 4, byte 8: the reference window must be 65 to B (400), found 64' replan "$scratch/edited.words" "$kept"
+answers 1 'refused 1, 3 columns and 3 messages make a file of version 1 of 82 bytes, found 81' replan "$scratch/length.tsm" "$kept"
+
+printf '%s\n' '-- a line extended'
+old="$e/press-line.words $e/press-line.plan"
+
+# extended NEW OLD PLAN LINES: that and what the plan keeps, adds and drops of OLD's plan are these lines, from new to the nodes.
+extended() {
+    run extend "$1" "$2" "$3"
+    [ "$status" -eq 0 ] && [ ! -s "$scratch/err" ] && [ "$(sed -n '/^# new/,$p' "$scratch/out")" = "$4" ]
+    verdict "ttplan extend $1 $2 $3: new, kept, gone and the nodes"
+    cp "$scratch/out" "$scratch/new.plan"
+    says 0 accepted check "$1" "$scratch/new.plan"
+}
+
+# extend_refused NEW TEXT: NEW in the place of T1 with T1's plan is refused with this text.
+extend_refused() {
+    answers 1 "refused $2" extend "$1" $e/t1.words $e/t1.plan
+}
+
+run extend $e/press-line-2.words $old
+[ "$status" -eq 0 ] && cmp -s "$scratch/out" $e/press-line-2.plan
+verdict "ttplan extend $e/press-line-2.words $old is $e/press-line-2.plan"
+sed -n 's/^    //p' README.md | grep -A 21 -F '# The matrix; a new message' | cmp -s - <(sed -n '/^# The matrix/,$p' $e/press-line-2.plan | grep .)
+verdict "$e/press-line-2.plan is in README.md"
+says 0 '2 2 # message 3, identifier 31' plan $e/press-line-2.words
+says 0 'used             2220    55.50 %' check $e/press-line-2.words $e/press-line-2.plan
+for n in 0 1 4; do
+    ./ttplan lists $old $n >"$scratch/list"
+    run lists $e/press-line-2.words $e/press-line-2.plan $n
+    [ "$status" -eq 0 ] && cmp -s "$scratch/out" "$scratch/list"
+    verdict "the list of node $n stays with the second binder"
+done
+for name in press-line press-line-2; do
+    ./ttplan file $e/$name.words >"$scratch/$name.tsm"
+    ./ttplan up $e/$name.words "$scratch/$name.up" >"$scratch/kept"
+done
+run extend "$scratch/press-line-2.tsm" "$scratch/press-line.up" $e/press-line.plan
+[ "$status" -eq 0 ] && cmp -s "$scratch/out" $e/press-line-2.plan
+verdict 'ttplan extend takes problem files of both versions'
+stayed='# nodes with a changed trigger list: none
+# nodes whose trigger list stayed: 0 1 2 3 4 5 6 7 8 9 10 11 12 13 14 15'
+extended $e/t1.tsm $e/t1.words $e/t1.plan "# new  none
+# kept 0x10 in column 0, base row 0
+# kept 0x20 in column 1, base row 1
+# kept 0x30 in column 1, base row 0
+# gone none
+
+$stayed"
+edited 20 33
+extended "$scratch/edited.words" $e/t1.words $e/t1.plan '# new  0x21 in column 1, base row 1
+# kept 0x10 in column 0, base row 0
+# kept 0x30 in column 1, base row 0
+# gone 0x20 in column 1, base row 1
+
+# nodes with a changed trigger list: 0 1
+# nodes whose trigger list stayed: 2 3 4 5 6 7 8 9 10 11 12 13 14 15'
+says 0 '# cycle   1     1    10   21*     .' extend "$scratch/edited.words" $e/t1.words $e/t1.plan
+echo '0 0 1 1 2 1' >"$scratch/other.plan"
+awk '/^16 /{ last = $0; next } { print } END { print last }' $e/t1.words >"$scratch/turned.words"
+extended "$scratch/turned.words" $e/t1.words "$scratch/other.plan" "# new  none
+# kept 0x20 in column 1, base row 1
+# kept 0x30 in column 2, base row 1
+# kept 0x10 in column 0, base row 0
+# gone none
+
+$stayed"
+echo '2 400 65 1 32 3 0 65 135 200 100 300 100' >"$scratch/empty.words"
+: >"$scratch/empty.plan"
+extended $e/t1.words "$scratch/empty.words" "$scratch/empty.plan" '# new  0x10 in column 0, base row 0
+# new  0x20 in column 1, base row 1
+# new  0x30 in column 1, base row 0
+# kept none
+# gone none
+
+# nodes with a changed trigger list: 0 1
+# nodes whose trigger list stayed: 2 3 4 5 6 7 8 9 10 11 12 13 14 15'
+extended "$scratch/empty.words" $e/t1.words $e/t1.plan '# new  none
+# kept none
+# gone 0x10 in column 0, base row 0
+# gone 0x20 in column 1, base row 1
+# gone 0x30 in column 1, base row 0
+
+# nodes with a changed trigger list: 0 1
+# nodes whose trigger list stayed: 2 3 4 5 6 7 8 9 10 11 12 13 14 15'
+edited 3 2
+says 0 '# nodes with a changed trigger list: 0 1 2 3 4 5 6 7 8 9 10 11 12 13 14 15' extend "$scratch/edited.words" $e/t1.words $e/t1.plan
+says 0 '# nodes whose trigger list stayed: none' extend "$scratch/edited.words" $e/t1.words $e/t1.plan
+sed '1s/64$/60/' "$scratch/full.words" | head -n 93 >"$scratch/fewer.words"
+head -n 60 "$scratch/full.plan" >"$scratch/fewer.plan"
+run extend "$scratch/full.words" "$scratch/fewer.words" "$scratch/fewer.plan"
+[ "$status" -eq 0 ] && [ "$(words_of "$scratch/out")" = "$(words_of "$scratch/full.plan")" ] && [ "$(grep -c '^# new  0x' "$scratch/out")" -eq 4 ] && [ "$(awk '{ if (length($0) > most) most = length($0) } END { print most }' "$scratch/out")" -le 80 ]
+verdict 'ttplan extend adds 4 messages to 60, and fits 80 columns'
+edited 8 130
+extend_refused "$scratch/edited.words" '11, kept message 0 (identifier 16): its frame takes 135, and column 0 is 130 wide'
+sed 's/^48 1 4 1 800 0 800/48 1 4 1 800 0 290/' $e/t1.words >"$scratch/changed.words"
+extend_refused "$scratch/changed.words" '12, kept message 2 (identifier 48) in column 1, base row 0: it waits 200 and its frame takes 95, 295 in all, and its deadline is 290'
+sed 's/^48 1 4 1 800 0 800/48 1 4 1 400 0 400/' $e/t1.words >"$scratch/changed.words"
+extend_refused "$scratch/changed.words" '13, kept message 2 (identifier 48) meets kept message 1 (identifier 32) in column 1, row 1'
+edited 26 800
+echo '0 0 1 0 1 1' >"$scratch/other.plan"
+sed 's/^32 /33 /' $e/t1.words >"$scratch/changed.words"
+answers 1 'refused 14, no acceptable proposal keeps the kept placements' extend "$scratch/changed.words" "$scratch/edited.words" "$scratch/other.plan"
+answers 1 'refused 15, the planner takes at most 16 messages without a kept placement, found 17' extend "$scratch/many.words" "$scratch/empty.words" "$scratch/empty.plan"
+edited 2 64
+extend_refused "$scratch/edited.words" '4, byte 8: the reference window must be 65 to B (400), found 64'
+extend_refused "$scratch/length.tsm" '1, 3 columns and 3 messages make a file of version 1 of 82 bytes, found 81'
+answers 1 'refused 4, old problem: byte 8: the reference window must be 65 to B (400), found 64' extend $e/t1.tsm "$scratch/edited.words" $e/t1.plan
+answers 1 'refused 1, old problem: 3 columns and 3 messages make a file of version 1 of 82 bytes, found 81' extend $e/t1.tsm "$scratch/length.tsm" $e/t1.plan
+for new in $e/t1.tsm "$scratch/edited.words"; do
+    answers 1 "${meeting/13,/13, old plan:}" extend "$new" $e/t1.words $e/t1-meeting.plan
+done
+echo '0 0 1 1 1' >"$scratch/p"
+answers 1 'refused 9, old plan: 3 messages need a proposal of 6 words, found 5' extend $e/t1.tsm $e/t1.tsm "$scratch/p"
+
 printf '%s\n' '-- bad use'
 is_bad 'no such command' frobnicate
 for arguments in '' "$e/t1.tsm $e/t1.plan"; do
@@ -431,6 +597,8 @@ done
 is_bad 'use: ttplan check FILE PROPOSAL' check $e/t1.tsm
 is_bad 'use: ttplan show FILE [PROPOSAL]' show
 is_bad 'use: ttplan plan FILE' plan $e/t1.tsm $e/t1.plan
+is_bad 'use: ttplan replan FILE KEPT' replan $e/t1.tsm
+is_bad 'use: ttplan extend NEW OLD OLDPLAN' extend $e/t1.tsm $e/t1.plan
 is_bad 'use: ttplan times EVENTS' times
 is_bad 'use: ttplan up FILE OUT' up $e/t1.tsm
 is_bad 'use: ttplan back FILE OUT' back $e/t1.tsm
@@ -451,7 +619,19 @@ printf '2 4294967296' >"$scratch/bad.words"
 is_bad 'line 1, column 3: not a whole number' plan "$scratch/bad.words"
 printf '2 -1' >"$scratch/bad.words"
 is_bad 'line 1, column 3: not a whole number' check $e/t1.tsm "$scratch/bad.words"
+printf '0 0\n- one' >"$scratch/bad.words"
+is_bad 'line 2, column 3: not a whole number from 0 to 4,294,967,295, and not a - for none' replan $e/t1.tsm "$scratch/bad.words"
+printf '0 0 -1 0 - -' >"$scratch/bad.words"
+is_bad 'line 1, column 5: not a whole number from 0 to 4,294,967,295, and not a - for none' replan $e/t1.tsm "$scratch/bad.words"
+printf '0 0 - -' >"$scratch/bad.words"
+is_bad 'line 1, column 5: not a whole number' check $e/t1.tsm "$scratch/bad.words"
+is_bad 'line 1, column 5: not a whole number' extend $e/t1.tsm $e/t1.tsm "$scratch/bad.words"
+is_bad 'nowhere.plan: No such file or directory' replan $e/t1.tsm "$scratch/nowhere.plan"
+is_bad 'nowhere.plan: No such file or directory' extend $e/t1.tsm $e/t1.tsm "$scratch/nowhere.plan"
+is_bad 'nowhere.tsm: No such file or directory' extend $e/t1.tsm "$scratch/nowhere.tsm" $e/t1.plan
+is_bad 'nowhere.tsm: No such file or directory' extend "$scratch/nowhere.tsm" $e/t1.tsm $e/t1.plan
 seq 1025 >"$scratch/bad.words"
+is_bad 'line 1025, column 1: a word list has at most 1,024 words' replan $e/t1.tsm "$scratch/bad.words"
 is_bad 'line 1025, column 1: a word list has at most 1,024 words' plan "$scratch/bad.words"
 is_bad 'NODE is a number from 0 to 15' lists $e/t1.tsm $e/t1.plan 16
 is_bad 'NODE is a number from 0 to 15' lists $e/t1.tsm $e/t1.plan one
