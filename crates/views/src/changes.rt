@@ -4,6 +4,8 @@ use super::tables::list_end;
 use super::tables::list_start;
 use rules::words;
 use triggers::NODES;
+ghost use mathlib.Core.Path.{_≡_};
+ghost use mathlib.Core.Bool.{true, false};
 ghost use Prim.Native.Nat.{_<_, _≤_};
 ghost use lib.ListN.{length};
 ghost use Rattle.rules.specs.Problem.{WellFormed, nodes};
@@ -51,12 +53,14 @@ pub fn messages(fate: &[u8], p: &[u32], w: &[u32], kept: &[u32], is_wanted_new: 
 // ---- nodes
 
 // Whether two lists have the same words.
-fn is_same(old: &[u32], new: &[u32]) -> bool {
+fn is_same(old: &[u32], new: &[u32]) -> bool
+    ensures { λ b. ⌜ (b ≡ true → now (old .entry) ≡ now (new .entry)) × (b ≡ false → ¬ (now (old .entry) ≡ now (new .entry))) ⌝ }
+{
     if old.len() != new.len() {
         return false;
     }
     let mut i: usize = 0;
-    while i < old.len() && i < new.len() {
+    while i < old.len() {
         if old[i] != new[i] {
             return false;
         }
