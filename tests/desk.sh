@@ -441,7 +441,7 @@ replanned() {
     verdict "ttplan replan with $1 gives $2, and check accepts it"
 }
 
-# kept_refused KEPT TEXT: T1 with these placements kept is refused with this text.
+# kept_refused KEPT TEXT: T1 with these placements kept is refused with this text. (16 cannot be met at the desk, which has room for every plan.)
 kept_refused() {
     echo "$1" >"$kept"
     answers 1 "refused $2" replan $e/t1.words "$kept"
@@ -480,7 +480,7 @@ answers 1 'refused 1, 3 columns and 3 messages make a file of version 1 of 82 by
 printf '%s\n' '-- a line extended'
 old="$e/press-line.words $e/press-line.plan"
 
-# extended NEW OLD PLAN LINES: that and what the plan keeps, adds and drops of OLD's plan are these lines, from new to the nodes.
+# extended NEW OLD PLAN LINES: NEW, planned with what PLAN has of OLD kept, is told with these lines behind its matrix, and check accepts it.
 extended() {
     run extend "$1" "$2" "$3"
     [ "$status" -eq 0 ] && [ ! -s "$scratch/err" ] && [ "$(sed -n '/^# new/,$p' "$scratch/out")" = "$4" ]
@@ -509,7 +509,7 @@ for n in 0 1 4; do
 done
 for name in press-line press-line-2; do
     ./ttplan file $e/$name.words >"$scratch/$name.tsm"
-    ./ttplan up $e/$name.words "$scratch/$name.up" >"$scratch/kept"
+    ./ttplan up $e/$name.words "$scratch/$name.up" >"$scratch/moved"
 done
 run extend "$scratch/press-line-2.tsm" "$scratch/press-line.up" $e/press-line.plan
 [ "$status" -eq 0 ] && cmp -s "$scratch/out" $e/press-line-2.plan
