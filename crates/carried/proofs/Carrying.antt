@@ -5,10 +5,10 @@ use mathlib.Core.List.{List}
 use native.Mathlib.Decide.{decLt}
 use native.Mathlib.Omega.{arith}
 use borrow.Author.Count.{below-none, below-more}
-use lib.ListN.{length, set, length-set}
-use lib.Seq.{getD-set-same, getD-set-other}
+use lib.ListN.{length}
 use Rattle.rules.specs.Problem.{messages, identifier, Gives, column, row, WellFormed}
-use Rattle.kept.specs.Kept.{none}
+use Rattle.kept.specs.Kept.{none, put}
+use Rattle.kept.proofs.Putting.{other-column, other-row, own-column, own-row}
 use Rattle.carried.specs.Carried.{First, Carries, Carried}
 
 module _ {o : List ℕ} {x i : ℕ} (f : WellFormed o) (first : First o x i) where
@@ -50,28 +50,13 @@ module _ {o : List ℕ} {x i : ℕ} (f : WellFormed o) (first : First o x i) whe
     row-none = λ n. absurd (n i l (first .has l));
   }
 
--- two words put in for message j are its column and its base row, and no other message's
-module _ (k : List ℕ) (j c r : ℕ) where
-  other-column : (i : ℕ) → i < j → column (set (set k (2 * j) c) (2 * j + 1) r) i ≡ column k i
-  other-column i l = getD-set-other (set k (2 * j) c) (2 * j + 1) (2 * i) r 0 (λ e. omega arith) ∙ getD-set-other k (2 * j) (2 * i) c 0 (λ e. omega arith)
-
-  other-row : (i : ℕ) → i < j → row (set (set k (2 * j) c) (2 * j + 1) r) i ≡ row k i
-  other-row i l = getD-set-other (set k (2 * j) c) (2 * j + 1) (2 * i + 1) r 0 (λ e. omega arith) ∙ getD-set-other k (2 * j) (2 * i + 1) c 0 (λ e. omega arith)
-
-  module _ (room : 2 * j + 1 < length k) where
-    own-column : column (set (set k (2 * j) c) (2 * j + 1) r) j ≡ c
-    own-column = getD-set-other (set k (2 * j) c) (2 * j + 1) (2 * j) r 0 (λ e. omega arith) ∙ getD-set-same k (2 * j) c 0 (omega arith)
-
-    own-row : row (set (set k (2 * j) c) (2 * j + 1) r) j ≡ r
-    own-row = getD-set-same (set k (2 * j) c) (2 * j + 1) r 0 (omega (arith, length-set k (2 * j) c))
-
 -- no message yet
 pub carried-none : (p o w k : List ℕ) → Carried p o w k 0
 carried-none p o w k = record { each = below-none _ }
 
 -- a message more
-pub carried-more : {p o w k : List ℕ} {j c r : ℕ} → 2 * j + 1 < length k → Carried p o w k j → Carries o w (identifier p j) c r
-    → Carried p o w (set (set k (2 * j) c) (2 * j + 1) r) (j + 1)
+pub carried-more : {p o w k : List ℕ} {j c r : ℕ} → Gives k j → Carried p o w k j → Carries o w (identifier p j) c r
+    → Carried p o w (put k j c r) (j + 1)
 carried-more {p} {o} {w} {k} {j} {c} {r} room C h = record {
-  each = below-more _ j (λ i l. rw (other-column k j c r i l, other-row k j c r i l) (C .each i l)) (rw (own-column k j c r room, own-row k j c r room) h);
+  each = below-more _ j (λ i l. rw (other-column k j c r i (λ e. omega arith), other-row k j c r i (λ e. omega arith)) (C .each i l)) (rw (own-column k j c r room, own-row k j c r room) h);
 }

@@ -2,7 +2,7 @@
 use rules::words;
 ghost use mathlib.Core.Path.{_≡_};
 ghost use Prim.Native.Nat.{_+_, _*_, _<_};
-ghost use lib.ListN.{length, set};
+ghost use lib.ListN.{length};
 ghost use Rattle.rules.specs.Problem.{WellFormed, messages as messageCount, mostMessages};
 ghost use Rattle.kept.specs.Kept.{none};
 ghost use Rattle.carried.specs.Carried.{First, Carries, Carried};
@@ -57,15 +57,6 @@ fn nowhere() -> Placement
     }
 }
 
-// Gives message j a placement in a list.
-fn put(k: &mut [u32; words::MOST_PROPOSAL], j: usize, at: Placement)
-    requires { ⌜ (j < mostMessages) × (length (now k) ≡ 2 * mostMessages) ⌝ }
-    ensures { λ _. ⌜ now (k .exit) ≡ set (set (now (k .entry)) (2 * j) (at .column)) (2 * j + 1) (at .row) ⌝ }
-{
-    k[2 * j] = at.column;
-    k[2 * j + 1] = at.row;
-}
-
 // For each message of a problem the placement that a plan of an old problem has for the message of its identifier, or none.
 pub fn carried(p: &[u32], old: &[u32], w: &[u32]) -> [u32; words::MOST_PROPOSAL]
     requires { ⌜ WellFormed (now p) × WellFormed (now old) ⌝ }
@@ -77,7 +68,7 @@ pub fn carried(p: &[u32], old: &[u32], w: &[u32]) -> [u32; words::MOST_PROPOSAL]
     let mut j: usize = 0;
     while j < messages {
         let at = placement_of(old, w, words::identifier_of(p, j));
-        put(&mut k, j, at);
+        kept::put(&mut k, j, at.column, at.row);
         j += 1;
     }
     k

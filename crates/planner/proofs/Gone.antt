@@ -15,7 +15,7 @@ use Rattle.rules.specs.Tests.{ownFault, meetingFault, fault, Stand}
 use Rattle.rules.proofs.Meaning.{meets-is, unmet-clear}
 use Rattle.rules.proofs.Prefix.{same-fault}
 use Rattle.places.proofs.Meets.{meets-clash}
-use Rattle.rest.specs.Joined.{put}
+use Rattle.kept.specs.Kept.{put}
 use Rattle.planner.specs.Order.{Agree, Before}
 use Rattle.places.specs.Places.{tableAt}
 use Rattle.planner.specs.Search.{Leaves, Best, Nowhere}

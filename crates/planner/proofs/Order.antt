@@ -10,8 +10,8 @@ use lib.ListN.{length}
 use lib.Seq.{ext-getD}
 use Rattle.basics.proofs.Tests.{below-or}
 use Rattle.rules.specs.Problem.{Gives, column, row}
-use Rattle.rest.specs.Joined.{put}
-use Rattle.rest.proofs.Joining.{other-column, other-row, own-column, own-row}
+use Rattle.kept.specs.Kept.{put}
+use Rattle.kept.proofs.Putting.{other-column, other-row, own-column, own-row}
 use Rattle.planner.specs.Order.{Agree, Before, Smaller, NotAfter}
 
 -- ---- places

@@ -17,13 +17,13 @@ use Rattle.rules.specs.Tests.{ownFault, Stand}
 use Rattle.rules.proofs.Bounds.{member}
 use Rattle.rules.proofs.Cells.{cell-meets, meets-cell}
 use Rattle.rules.proofs.Meaning.{own-alone, Meets, meets-is, is-meets, fault-sound, sound-fault}
-use Rattle.kept.specs.Kept.{keeps, Keeping}
+use Rattle.kept.specs.Kept.{keeps, put, Keeping}
 use Rattle.kept.proofs.Nobody.{none-row}
 use Rattle.row_words.specs.RowWords.{SetBefore}
 use Rattle.proposal.proofs.KeptMet.{KeptClear, kept-faultless}
 use Rattle.places.proofs.Meets.{fault-own, turned, not-met}
 use Rattle.rest.specs.Part.{Part}
-use Rattle.rest.specs.Joined.{put, Joined}
+use Rattle.rest.specs.Joined.{Joined}
 use Rattle.rest.proofs.Formed.{free-numbers, part-formed}
 use Rattle.rest.proofs.Same.{part-rows, part-repeat, own-part, part-own, meets-part, part-meets}
 use Rattle.planner.specs.Order.{Agree, NotAfter}

@@ -15,7 +15,7 @@ use Rattle.rules.proofs.Meaning.{stands}
 use Rattle.places.specs.Places.{tableAt, Few, Allows, Clash, Beside}
 use Rattle.lookahead.specs.Probe.{Cautious}
 use Rattle.places.proofs.Meets.{fault-own, low-column, clash-meets, not-met}
-use Rattle.rest.specs.Joined.{put}
+use Rattle.kept.specs.Kept.{put}
 use Rattle.planner.specs.Search.{Leaves, From, Fitting, Suiting, Best, Nowhere, Searched}
 use Rattle.planner.proofs.Gone.{Gone, gone-next, found, whole, best-same, nowhere-same}
 use Rattle.planner.proofs.Order.{put-keeps, put-column, put-row, put-agree}

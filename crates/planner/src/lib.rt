@@ -11,7 +11,7 @@ ghost use mathlib.Core.Path.{_≡_};
 ghost use Prim.Native.Nat.{_<_, _≤_};
 ghost use Rattle.rules.specs.Problem.{mostRows, mostColumns, messages, WellFormed};
 ghost use Rattle.places.specs.Places.{mostPlanned, Few};
-ghost use Rattle.rest.specs.Joined.{put};
+ghost use Rattle.kept.specs.Kept.{put};
 ghost use Rattle.planner.specs.Search.{unplanned, From, Begun, Fitting, Suiting, Searched};
 ghost use Rattle.planner.specs.Promise.{unready, Answered, Planning, unreadyAgain, AnsweredAgain, Replanning};
 ghost use Rattle.planner.specs.Complete.{Sound, Completes};

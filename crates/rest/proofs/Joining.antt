@@ -5,13 +5,13 @@ use mathlib.Core.Bool.{true}
 use mathlib.Core.List.{List, _++_}
 use native.Mathlib.Omega.{arith}
 use borrow.Author.Count.{below-none, below-more}
-use lib.ListN.{length, getD, set, length-set, List·getD-append}
-use lib.Seq.{getD-set-same, getD-set-other}
+use lib.ListN.{length, getD, List·getD-append}
 use Rattle.basics.proofs.Tests.{not-both}
-use Rattle.rules.specs.Problem.{Gives, column, row, mostMessages}
-use Rattle.kept.specs.Kept.{keeps}
+use Rattle.rules.specs.Problem.{column, row, mostMessages}
+use Rattle.kept.specs.Kept.{keeps, put}
+use Rattle.kept.proofs.Putting.{other-column, other-row, own-column, own-row}
 use Rattle.rest.specs.Free.{Free}
-use Rattle.rest.specs.Joined.{put, Joined}
+use Rattle.rest.specs.Joined.{Joined}
 
 -- the kept placements at the front, and as yet no slot
 pub joined-none : {k m v w : List ℕ} {h : ℕ} (rest : List ℕ) → length k ≡ 2 * h → w ≡ k ++ rest → Joined k m 0 v h w
@@ -21,21 +21,6 @@ joined-none {k} {m} {v} {w} {h} rest l e = record {
   free-columns = below-none _;
   free-rows = below-none _;
 }
-
--- two words put in for message j are its column and its base row, and no other message's
-module _ (w : List ℕ) (j c r : ℕ) where
-  pub other-column : (i : ℕ) → ¬ (i ≡ j) → column (put w j c r) i ≡ column w i
-  other-column i d = getD-set-other (set w (2 * j) c) (2 * j + 1) (2 * i) r 0 (λ e. omega arith) ∙ getD-set-other w (2 * j) (2 * i) c 0 (λ e. d (omega arith))
-
-  pub other-row : (i : ℕ) → ¬ (i ≡ j) → row (put w j c r) i ≡ row w i
-  other-row i d = getD-set-other (set w (2 * j) c) (2 * j + 1) (2 * i + 1) r 0 (λ e. d (omega arith)) ∙ getD-set-other w (2 * j) (2 * i + 1) c 0 (λ e. omega arith)
-
-  module _ (room : Gives w j) where
-    pub own-column : column (put w j c r) j ≡ c
-    own-column = getD-set-other (set w (2 * j) c) (2 * j + 1) (2 * j) r 0 (λ e. omega arith) ∙ getD-set-same w (2 * j) c 0 (omega arith)
-
-    pub own-row : row (put w j c r) j ≡ r
-    own-row = getD-set-same (set w (2 * j) c) (2 * j + 1) r 0 (omega (arith, length-set w (2 * j) c))
 
 -- a slot more
 pub joined-more : {k m v w : List ℕ} {n s h : ℕ} → Free k h m n → s < n → h ≤ mostMessages → length w ≡ 2 * mostMessages → Joined k m s v h w

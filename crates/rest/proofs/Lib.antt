@@ -2,4 +2,4 @@ pub mod Same
 pub mod Formed
 mod Walk
 mod Copying
-pub mod Joining
+mod Joining

@@ -1,15 +1,11 @@
 -- Kept placements and those of the other messages, as one proposal.
-use Prim.Native.Nat.{ℕ, _+_, _*_, _<_}
+use Prim.Native.Nat.{ℕ, _<_}
 use mathlib.Core.Path.{_≡_}
 use mathlib.Core.Bool.{true}
 use mathlib.Core.List.{List}
-use lib.ListN.{getD, set}
+use lib.ListN.{getD}
 use Rattle.rules.specs.Problem.{column, row}
 use Rattle.kept.specs.Kept.{keeps}
-
--- w with message j at column c and base row r
-abbrev pub put : List ℕ → ℕ → ℕ → ℕ → List ℕ
-put w j c r = set (set w (2 * j) c) (2 * j + 1) r
 
 -- of h messages w has those that k keeps as k has them, and the n whose numbers are the first words of m as v has slots 0, 1, ..
 pub record Joined (k m : List ℕ) (n : ℕ) (v : List ℕ) (h : ℕ) (w : List ℕ) : Type 0 where

@@ -7,7 +7,7 @@ ghost use Rattle.rules.specs.Problem.{WellFormed, messages as messageCount, mos
 ghost use Rattle.places.specs.Places.{mostPlanned};
 ghost use Rattle.rest.specs.Free.{freeOf, Free};
 ghost use Rattle.rest.specs.Part.{partWords, Part, Numbers, Filed};
-ghost use Rattle.rest.specs.Joined.{put, Joined};
+ghost use Rattle.rest.specs.Joined.{Joined};
 
 // The words of the longest problem that is planned.
 pub const PART_WORDS: usize = words::HEADER_WORDS
@@ -75,15 +75,6 @@ pub fn part_of(
     words::message_at(columns, count)
 }
 
-// Gives message j column c and base row r.
-fn put(w: &mut [u32; words::MOST_PROPOSAL], j: usize, c: u32, r: u32)
-    requires { ⌜ (j < mostMessages) × (length (now w) ≡ 2 * mostMessages) ⌝ }
-    ensures { λ _. ⌜ now (w .exit) ≡ put (now (w .entry)) j c r ⌝ }
-{
-    w[2 * j] = c;
-    w[2 * j + 1] = r;
-}
-
 // One proposal of the kept placements and of a plan for the other messages.
 pub fn joined(
     kept: &[u32],
@@ -101,7 +92,7 @@ pub fn joined(
     basics::copy_words(kept, &mut w);
     let mut s = 0;
     while s < count {
-        put(&mut w, numbers[s], plan[2 * s], plan[2 * s + 1]);
+        kept::put(&mut w, numbers[s], plan[2 * s], plan[2 * s + 1]);
         s += 1;
     }
     w

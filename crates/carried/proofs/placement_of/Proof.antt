@@ -2,7 +2,6 @@
 use mathlib.Core.Path.{sym, _∙_}
 use native.Mathlib.Omega.{arith}
 use borrow.Author.Tests.{ltb-true, ltb-false, not-true, not-false}
-use Rattle.rules.specs.Problem.{Gives}
 use Rattle.carried.proofs.Carrying.{carries-none, carries-cut, carries-at}
 use borrow.Author.Needs.{needs}
 use Rattle.carried.proofs.placement_of.Statement.{statement}
