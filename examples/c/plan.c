@@ -9,7 +9,7 @@
 
 int main(int argc, char **argv) {
     uint8_t bytes[FFY_BYTES + 1]; /* one more than a problem has, so that a longer file is refused */
-    uint32_t plan[FFY_PLAN], answer[8];
+    uint32_t plan[FFY_PLAN], answer[FFY_ANSWER];
     FILE *file = argc == 2 ? fopen(argv[1], "rb") : NULL;
     if (!file) {
         fprintf(stderr, "usage: plan FILE, with a problem file that can be read\n");
@@ -18,7 +18,7 @@ int main(int argc, char **argv) {
     size_t count = fread(bytes, 1, sizeof bytes, file);
     fclose(file);
     ffy_plan(bytes, count, plan, FFY_PLAN, answer);
-    if (answer[0]) {
+    if (answer[0] != FFY_DONE) {
         printf("refused %u, place %u\n", (unsigned)answer[0], (unsigned)answer[1]);
         return 1;
     }
