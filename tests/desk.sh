@@ -1,5 +1,5 @@
 #!/usr/bin/env bash
-# What only a script can try of the desk tool: exit status, bad use, round trips through files. Says what it tried; fails at the end if any failed.
+# What only a script can try of the desk tool: what is said and where, exit status, bad use, round trips through files. Says what it tried; fails at the end if any failed.
 set -u
 cd "$(dirname "$0")/.." || exit 2
 scratch=$(mktemp -d) || exit 2
@@ -27,13 +27,22 @@ run() {
     status=$?
 }
 
-# answers STATUS TEXT ARGUMENTS: this status and exactly this line on standard output, nothing on standard error.
+# answers STATUS TEXT ARGUMENTS: this status and exactly this on standard output, nothing on standard error.
 answers() {
     local wanted=$1 text=$2
     shift 2
     run "$@"
     [ "$status" -eq "$wanted" ] && [ "$(cat "$scratch/out")" = "$text" ] && [ ! -s "$scratch/err" ]
     verdict "ttplan $*: $text"
+}
+
+# refuses TEXT ARGUMENTS: status 1, nothing on standard output, exactly `refused` and this text on standard error, where @ is the last argument.
+refuses() {
+    local text=$1
+    shift
+    run "$@"
+    [ "$status" -eq 1 ] && [ ! -s "$scratch/out" ] && [ "$(cat "$scratch/err")" = "refused ${text//@/"${!#}"}" ]
+    verdict "ttplan $*: refused $text"
 }
 
 # is_bad TEXT ARGUMENTS: status 2, nothing on standard output, one sentence with this text on standard error.
@@ -60,7 +69,7 @@ edited() {
 }
 
 e=examples
-meeting='refused 13, message 2 (identifier 48) meets message 1 (identifier 32) in column 1, row 1'
+meeting="refused 13, $e/t1-meeting.plan, line 4, message 2 (0x030) meets message 1 (0x020), line 3, in column 1, row 1"
 printf '%s\n' '-- answers'
 t1='accepted
 losses over one matrix cycle of 800
@@ -71,9 +80,6 @@ empty             200    25.00 %
 gaps                0     0.00 %'
 answers 0 "$t1" check $e/t1.tsm $e/t1.plan
 answers 0 "$t1" check $e/t1.words $e/t1.plan
-run check $e/t1.tsm $e/t1.plan
-sed -n 's/^    //p' README.md | grep -A 6 -x 'accepted' | cmp -s - "$scratch/out"
-verdict "ttplan check $e/t1.tsm $e/t1.plan is the table in README.md"
 answers 0 'accepted
 losses over one matrix cycle of 20000
 reference         624     3.12 %
@@ -89,135 +95,177 @@ in-window         405    10.13 %
 empty             455    11.38 %
 gaps              960    24.00 %' check $e/press-line.words $e/press-line.plan
 answers 1 "$meeting" check $e/t1.words $e/t1-meeting.plan
-says 0 'cycle   7    F0    51    52    53   102   104   202   404     .'
-says 0 'cycle   1     1    10    20     .' show $e/t1.tsm $e/t1.plan
+says 0 'cycle  7  0x0f0  0x051  0x052  0x053  0x102  0x104  0x202  0x404      .'
+says 0 'cycle  1  0x001  0x010  0x020      .' show $e/t1.tsm $e/t1.plan
 says 0 'in-window          40     5.00 %' show $e/t1.tsm $e/t1.plan
-says 0 '   200    1      2  receives  20' lists $e/t1.tsm $e/t1.plan 0
+says 0 '   200    1      2  receives  0x020' lists $e/t1.tsm $e/t1.plan 0
 says 0 'node 15, triggers: 1' lists $e/t1.tsm $e/t1.plan
 says 1 'deadlines missed: 1' times $e/events.words
-says 0 'ttplan check FILE PROPOSAL' help
-says 0 'ttplan hold FILE PROPOSAL LOG SPAN' help
-says 0 'ttplan up FILE OUT' help
-says 0 'ttplan replan FILE KEPT' help
-says 0 'ttplan extend NEW OLD OLDPLAN' help
-run help
-! grep -q '^ttplan losses' "$scratch/out"
-verdict 'ttplan help does not name losses'
-
 printf '%s\n' '-- every refusal that a person can meet'
 
-# words_refused AT VALUE TEXT: T1's words with the one at a place changed are refused with this text.
+# words_refused AT VALUE TEXT: T1's words, one a line, with the one at a place (from 0) changed are refused with this text; @ is the file.
 words_refused() {
     edited "$1" "$2"
-    answers 1 "refused $3" plan "$scratch/edited.words"
+    refuses "$3" plan "$scratch/edited.words"
 }
 
 # file_refused AT BYTES TEXT: T1's file with bytes (as printf writes them) put at a place is refused with this text.
 file_refused() {
     cp $e/t1.tsm "$scratch/edited.tsm"
     printf '%b' "$2" | dd of="$scratch/edited.tsm" bs=1 seek="$1" conv=notrunc 2>/dev/null
-    answers 1 "refused $3" plan "$scratch/edited.tsm"
+    refuses "$3" plan "$scratch/edited.tsm"
 }
 
-# proposal_refused COMMAND WORDS TEXT: this proposal for T1 is refused by a command with this text.
+# proposal_refused COMMAND WORDS TEXT: this proposal for T1 is refused by a command with this text, on standard output.
 proposal_refused() {
-    echo "$2" >"$scratch/p"
-    answers 1 "refused $3" "$1" $e/t1.tsm "$scratch/p"
+    printf '%b\n' "$2" >"$scratch/p"
+    answers 1 "refused ${3//@/"$scratch/p"}" "$1" $e/t1.tsm "$scratch/p"
 }
 
-# events_refused WORDS TEXT: these events are refused with this text.
+# events_refused WORDS TEXT: these events are refused with this text, on standard output.
 events_refused() {
-    echo "$1" >"$scratch/events"
-    answers 1 "refused $2" times "$scratch/events"
+    printf '%b\n' "$1" >"$scratch/events"
+    answers 1 "refused ${2//@/"$scratch/events"}" times "$scratch/events"
 }
 
 head -c 15 $e/t1.tsm >"$scratch/length.tsm"
-answers 1 'refused 1, a file has at least 16 bytes, found 15' plan "$scratch/length.tsm"
+refuses '1, @: 15 bytes; a problem file has at least 16' plan "$scratch/length.tsm"
 (cat $e/t1.tsm && printf 'x') >"$scratch/length.tsm"
-answers 1 'refused 1, 3 columns and 3 messages make a file of version 1 of 82 bytes, found 83' plan "$scratch/length.tsm"
+refuses '1, @: 83 bytes; 3 columns and 3 messages make a file of version 1 of 82' plan "$scratch/length.tsm"
 head -c 81 $e/t1.tsm >"$scratch/length.tsm"
-answers 1 'refused 1, 3 columns and 3 messages make a file of version 1 of 82 bytes, found 81' check "$scratch/length.tsm" $e/t1.plan
+answers 1 "refused 1, $scratch/length.tsm: 81 bytes; 3 columns and 3 messages make a file of version 1 of 82" check "$scratch/length.tsm" $e/t1.plan
 echo 2 400 65 1 32 3 >"$scratch/length.words"
-answers 1 'refused 1, a problem has at least 7 words, found 6' plan "$scratch/length.words"
+refuses '1, @: 6 words; a problem has at least the 7 of its header' plan "$scratch/length.words"
 edited 34 0
 head -n 33 "$scratch/edited.words" >"$scratch/length.words"
-answers 1 'refused 1, 3 columns and 3 messages make 34 words in version 1 and 37 in version 2, found 33' plan "$scratch/length.words"
+t1_count='3 columns and 3 messages make 34 words in version 1 and 37 in version 2'
+refuses "1, @: 33 words; $t1_count" plan "$scratch/length.words"
+sed 's/^0x020 1 1 1 800 400 300/0x020 1 1 800 400 300/' $e/t1.words >"$scratch/length.words"
+refuses "1, @: 33 words; $t1_count; line 10 has 6 words where 7 are due" plan "$scratch/length.words"
+sed 's/^200 100/200 100 7 7/' $e/t1.words >"$scratch/length.words"
+refuses "1, @: 36 words; $t1_count; line 6 has 4 words where 2 are due" words "$scratch/length.words"
+sed 's/^200 100 0/200 100/' $e/t1-version-2.words >"$scratch/length.words"
+refuses "1, @: 36 words; $t1_count; line 6 has 2 words where 3 are due" file "$scratch/length.words"
+sed '/^0x030 /d' $e/t1.words >"$scratch/length.words"
+refuses "1, @: 27 words; $t1_count" plan "$scratch/length.words"
 echo 1 1000 65 1 32 1 1 65 135 >"$scratch/length.words"
-answers 1 'refused 1, 1 column and 1 message make 16 words in version 1 and 17 in version 2, found 9' file "$scratch/length.words"
-file_refused 2 N '2, the file does not begin with the mark TSM'
-file_refused 3 '\0\3' '3, the version of the file must be 1 or 2, found 3'
-file_refused 3 '\2\1' '3, the version of the file must be 1 or 2, found 513'
-file_refused 3 '\0\2' '1, 3 columns and 3 messages make a file of version 2 of 91 bytes, found 82'
-words_refused 0 3 '4, byte 5: the number of rows must be 1, 2, 4, 8, 16, 32 or 64, found 3'
-words_refused 1 0 '4, byte 6: the basic cycle must be 1 to 65535, found 0'
-words_refused 1 65536 '4, byte 6: the basic cycle must be 1 to 65535, found 65536'
-words_refused 2 64 '4, byte 8: the reference window must be 65 to B (400), found 64'
-words_refused 2 401 '4, byte 8: the reference window must be 65 to B (400), found 401'
-words_refused 3 2048 '4, byte 10: the reference identifier must be 0 to 2047, found 2048'
-words_refused 4 0 '4, byte 12: the limit of triggers must be 1 to 32, found 0'
-words_refused 5 0 '4, byte 13: the number of columns must be 1 to 32, found 0'
-words_refused 6 65 '4, byte 14: the number of messages must be 0 to 64, found 65'
-file_refused 5 '\3' '4, byte 5: the number of rows must be 1, 2, 4, 8, 16, 32 or 64, found 3'
-file_refused 6 '\0\0' '4, byte 6: the basic cycle must be 1 to 65535, found 0'
-file_refused 8 '\0\100' '4, byte 8: the reference window must be 65 to B (400), found 64'
-file_refused 10 '\10\0' '4, byte 10: the reference identifier must be 0 to 2047, found 2048'
-file_refused 12 '\41' '4, byte 12: the limit of triggers must be 1 to 32, found 33'
-file_refused 13 '\0' '4, byte 13: the number of columns must be 1 to 32, found 0'
-file_refused 14 '\101' '4, byte 14: the number of messages must be 0 to 64, found 65'
-file_refused 15 '\1' '4, byte 15: the last byte of the header must be 0, found 1'
-words_refused 7 64 '5, column 0 (start 64, width 135): it must not start below 65, where the reference window ends'
-words_refused 9 150 '5, column 1 (start 150, width 100): it must not start below 200, where column 0 ends'
-words_refused 9 65536 '5, column 1 (start 65536, width 100): the start must be at most 65535'
-words_refused 10 0 '5, column 1 (start 200, width 0): the width must be 1 to 65535'
-words_refused 10 65536 '5, column 1 (start 200, width 65536): the width must be 1 to 65535'
-words_refused 12 101 '5, column 2 (start 300, width 101): it must not end above 400, the basic cycle'
-file_refused 20 '\0\226' '5, column 1 (start 150, width 100): it must not start below 200, where column 0 ends'
-words_refused 21 16 '6, message 1 (identifier 32): the sender must be node 0 to 15, found 16'
-words_refused 20 2048 '6, message 1 (identifier 2048): the identifier must be 0 to 2047, found 2048'
-words_refused 20 1 '6, message 1 (identifier 1): it has the identifier of the reference message'
-words_refused 22 9 '6, message 1 (identifier 32): the data bytes must be 0 to 8, found 9'
-words_refused 23 65536 '6, message 1 (identifier 32): the receivers must be a mask of 0 to 65535, found 65536'
-words_refused 23 2 '6, message 1 (identifier 32): its sender, node 1, must not be among its receivers, found mask 2'
-words_refused 27 16 '6, message 2 (identifier 16): it has the identifier of message 0'
-file_refused 48 '\20' '6, message 1 (identifier 32): the sender must be node 0 to 15, found 16'
-words_refused 24 500 '7, message 1 (identifier 32): the period must be the basic cycle (400) times a power of two up to the rows (2), found 500'
-words_refused 25 800 '7, message 1 (identifier 32): the offset must be below the period (800), found 800'
-words_refused 26 801 '7, message 1 (identifier 32): the deadline must be 1 to the period (800), found 801'
-words_refused 26 0 '7, message 1 (identifier 32): the deadline must be 1 to the period (800), found 0'
-file_refused 52 '\0\0\1\364' '7, message 1 (identifier 32): the period must be the basic cycle (400) times a power of two up to the rows (2), found 500'
-words_refused 4 3 '8, node 0: it needs 4 triggers, and the limit is 3'
-file_refused 12 '\3' '8, node 0: it needs 4 triggers, and the limit is 3'
-proposal_refused check '0 0 1 1 1' '9, 3 messages need a proposal of 6 words, found 5'
+refuses '1, @: 9 words; 1 column and 1 message make 16 words in version 1 and 17 in version 2' file "$scratch/length.words"
+sed 's/^2 400 65 0x001 32 3 3/2 400 65 32 3 3/' $e/t1.words >"$scratch/length.words"
+refuses '4, @, line 5: messages 65; it must be 0 to 64; line 3 has 6 words where the 7 of the header are due' plan "$scratch/length.words"
+sed 's/^0x020 1 1 1 800 400 300/0x020 1 1 1 800 400/; s/^0x030 1 4/0x030 1 4 4/' $e/t1.words >"$scratch/length.words"
+refuses '6, @, line 11, message 2 (0x001): identifier 0x001; the reference message has it, and each must have its own; line 10 has 6 words where 7 are due' plan "$scratch/length.words"
+printf '2 400 65 1 32 2 1\n65 135\n200 100\n300 100\n0x10 0 4 0 400 0 400\n' >"$scratch/length.words"
+run plan "$scratch/length.words"
+[ "$status" -eq 1 ] && grep -q 'line 3, column 0: kind 200; .*: if two were meant, columns or messages are miscounted' "$scratch/err"
+verdict 'ttplan plan: a column too many is not only called a kind'
+refuses '1, @: 6 words; a problem has at least the 7 of its header; it has a line # problem, as a plan has: is it one?' plan $e/t1.plan
+sed 's/^200 100/200 250/' $e/t1.words >"$scratch/length.words"
+refuses '5, @, line 7, column 2: start 300; it must be at least 450, where column 1 ends, beyond the basic cycle, 400' plan "$scratch/length.words"
+sed 's/^2 400 65/2 60 65/' $e/t1.words >"$scratch/length.words"
+refuses '4, @, line 3: basic cycle 60; it must be 66 at least, for the reference window and a column' plan "$scratch/length.words"
+file_refused 2 N '2, @: the bytes 84 83 78 in front; a problem file has 84 83 77 there, the mark TSM, and a word list is not named .tsm'
+file_refused 3 '\0\3' '3, @, byte 3: version 3; it must be 1 or 2'
+file_refused 3 '\2\1' '3, @, byte 3: version 513; it must be 1 or 2'
+file_refused 3 '\0\2' '1, @: 82 bytes; 3 columns and 3 messages make a file of version 2 of 91'
+words_refused 0 3 '4, @, line 1: rows 3; it must be 1, 2, 4, 8, 16, 32 or 64'
+words_refused 1 0 '4, @, line 2: basic cycle 0; it must be 1 to 65535'
+words_refused 1 65536 '4, @, line 2: basic cycle 65536; it must be 1 to 65535'
+words_refused 2 64 '4, @, line 3: reference window 64; it must be 65 to 400, the basic cycle'
+words_refused 2 401 '4, @, line 3: reference window 401; it must be 65 to 400, the basic cycle'
+words_refused 3 2048 '4, @, line 4: reference identifier 0x800; it must be 0x000 to 0x7ff'
+words_refused 4 0 '4, @, line 5: limit of triggers 0; it must be 1 to 32'
+words_refused 5 0 '4, @, line 6: columns 0; it must be 1 to 32'
+words_refused 6 65 '4, @, line 7: messages 65; it must be 0 to 64'
+file_refused 5 '\3' '4, @, byte 5: rows 3; it must be 1, 2, 4, 8, 16, 32 or 64'
+file_refused 6 '\0\0' '4, @, byte 6: basic cycle 0; it must be 1 to 65535'
+file_refused 8 '\0\100' '4, @, byte 8: reference window 64; it must be 65 to 400, the basic cycle'
+file_refused 10 '\10\0' '4, @, byte 10: reference identifier 0x800; it must be 0x000 to 0x7ff'
+file_refused 12 '\41' '4, @, byte 12: limit of triggers 33; it must be 1 to 32'
+file_refused 13 '\0' '4, @, byte 13: columns 0; it must be 1 to 32'
+file_refused 14 '\101' '4, @, byte 14: messages 65; it must be 0 to 64'
+file_refused 15 '\1' '4, @, byte 15: the last byte of the header 1; it must be 0'
+words_refused 7 64 '5, @, line 8, column 0: start 64; it must be at least 65, where the reference window ends'
+words_refused 9 150 '5, @, line 10, column 1: start 150; it must be at least 200, where column 0 ends'
+words_refused 9 65536 '5, @, line 10, column 1: start 65536; it must be 0 to 65535'
+words_refused 10 0 '5, @, line 11, column 1: width 0; it must be 1 to 65535'
+words_refused 10 65536 '5, @, line 11, column 1: width 65536; it must be 1 to 65535'
+words_refused 12 101 '5, @, line 13, column 2: start 300 and width 101 end at 401; it must end at 400, the basic cycle, or before'
+file_refused 20 '\0\226' '5, @, byte 20, column 1: start 150; it must be at least 200, where column 0 ends'
+file_refused 22 '\0\0' '5, @, byte 22, column 1: width 0; it must be 1 to 65535'
+words_refused 21 16 '6, @, line 22, message 1 (0x020): sender 16; it must be 0 to 15'
+words_refused 20 2048 '6, @, line 21, message 1 (0x800): identifier 0x800; it must be 0x000 to 0x7ff'
+words_refused 20 1 '6, @, line 21, message 1 (0x001): identifier 0x001; the reference message has it, and each must have its own'
+words_refused 22 9 '6, @, line 23, message 1 (0x020): data bytes 9; it must be 0 to 8'
+words_refused 23 65536 '6, @, line 24, message 1 (0x020): receivers 65536; it must be 0 to 65535, 1 for node 0 and 2 for node 1 and 4 for node 2 and so on'
+words_refused 23 6 '6, @, line 24, message 1 (0x020): receivers 6 have its sender among them, node 1; they must be 4, or others without it'
+words_refused 27 16 '6, @, line 28, message 2 (0x010): identifier 0x010; message 0 has it too, and each must have its own'
+file_refused 46 '\0\20' '6, @, byte 46, message 1 (0x010): identifier 0x010; message 0 has it too, and each must have its own'
+file_refused 48 '\20' '6, @, byte 48, message 1 (0x020): sender 16; it must be 0 to 15'
+file_refused 49 '\11' '6, @, byte 49, message 1 (0x020): data bytes 9; it must be 0 to 8'
+file_refused 50 '\0\2' '6, @, byte 50, message 1 (0x020): receivers 2 have its sender among them, node 1; they must be 0, or others without it'
+words_refused 24 500 '7, @, line 25, message 1 (0x020): period 500; it must be 400 times 1 or 2'
+words_refused 25 800 '7, @, line 26, message 1 (0x020): offset 800; it must be below 800, the period'
+words_refused 26 801 '7, @, line 27, message 1 (0x020): deadline 801; it must be 1 to 800, the period'
+words_refused 26 0 '7, @, line 27, message 1 (0x020): deadline 0; it must be 1 to 800, the period'
+file_refused 52 '\0\0\1\364' '7, @, byte 52, message 1 (0x020): period 500; it must be 400 times 1 or 2'
+file_refused 56 '\0\0\3\040' '7, @, byte 56, message 1 (0x020): offset 800; it must be below 800, the period'
+file_refused 60 '\0\0\3\041' '7, @, byte 60, message 1 (0x020): deadline 801; it must be 1 to 800, the period'
+sed 's/^0x050 3 2 1 4000/0x050 3 2 1 15000/' $e/press-line.words >"$scratch/period.words"
+refuses '7, @, line 31, message 5 (0x050): period 15000; it must be 1000 times 1, 2 or 4' plan "$scratch/period.words"
+echo 1 400 65 1 32 1 1 65 135 16 0 8 2 800 0 400 >"$scratch/period.words"
+refuses '7, @, line 1, message 0 (0x010): period 800; it must be 400 times 1' plan "$scratch/period.words"
+many='it needs 4 triggers, one for the reference and one for each message that it sends or receives; the limit is 3'
+words_refused 4 3 "8, @, line 5, node 0: $many"
+file_refused 12 '\3' "8, @, byte 12, node 0: $many"
+proposal_refused check '0 0 1 1 1' '9, @: 5 words; 3 messages need 6, column and base row of each'
+proposal_refused check '0 0\n1\n1 1' '9, @: 5 words; 3 messages need 6, column and base row of each; line 2 has 1 word where 2 are due'
 echo 1 1000 65 1 32 1 1 65 135 2 0 0 0 1000 0 1000 >"$scratch/one.words"
-answers 1 'refused 9, 1 message needs a proposal of 2 words, found 5' check "$scratch/one.words" "$scratch/p"
-proposal_refused check '0 0 1 1 3 0' '10, message 2 (identifier 48): the column must be 0 to 2, found 3'
-proposal_refused check '0 0 1 1 1 2' '10, message 2 (identifier 48): the base row must be 0 to 1, found 2'
-proposal_refused lists '1 0 0 0 0 0' '11, message 0 (identifier 16): its frame takes 135, and column 1 is 100 wide'
-proposal_refused show '0 0 1 0 1 1' '12, message 1 (identifier 32) in column 1, base row 0: it waits 600 and its frame takes 65, 665 in all, and its deadline is 300'
-proposal_refused check '0 0 1 1 0 1' '13, message 2 (identifier 48) meets message 0 (identifier 16) in column 0, row 1'
+answers 1 "refused 9, $scratch/p: 5 words; 1 message needs 2, column and base row of each" check "$scratch/one.words" "$scratch/p"
+proposal_refused check '0 0\n1 1\n3 0' '10, @, line 3, message 2 (0x030): column 3; it must be 0 to 2'
+proposal_refused check '0 0\n1 1\n1\n2' '10, @, line 4, message 2 (0x030): base row 2; it must be 0 to 1'
+proposal_refused lists '1 0 0 0 0 0' '11, @, line 1, message 0 (0x010): column 1 is 100 wide, and its frame takes 135; wide enough: 0'
+proposal_refused show '0 0\n1 0\n1 1' '12, @, line 2, message 1 (0x020): in column 1, base row 0 it waits 600 and its frame takes 65, in all 665; its deadline is 300, so that it is late by 365'
+proposal_refused check '0 0\n1 1\n0 1' '13, @, line 3, message 2 (0x030) meets message 0 (0x010), line 1, in column 0, row 1'
 edited 26 264
-answers 1 'refused 14, no acceptable proposal exists' plan "$scratch/edited.words"
+crowded='each message has a place alone, but not all of them together'
+refuses "14, @: no plan exists; $crowded" plan "$scratch/edited.words"
+edited 26 64
+refuses '14, @: no plan exists
+no place even alone, line 21, message 1 (0x020): wherever its frame fits it would end after its deadline, 64' plan "$scratch/edited.words"
+edited 8 100
+refuses '14, @: no plan exists
+no place even alone, line 14, message 0 (0x010): no column is as wide as its frame, 135' plan "$scratch/edited.words"
+echo 1 300 65 1 32 1 2 65 135 2 0 0 0 300 0 300 3 0 0 0 300 0 300 >"$scratch/two.words"
+refuses "14, @: no plan exists; $crowded" plan "$scratch/two.words"
 (echo 1 1000 65 1 32 1 17 65 135 && for i in $(seq 17); do echo "$((i + 1)) $((i % 16)) 0 0 1000 0 1000"; done) >"$scratch/many.words"
-answers 1 'refused 15, the planner takes at most 16 messages, found 17' plan "$scratch/many.words"
-events_refused '1 8 337 0' '17, events have five words each, and there are at most 64, found 4 words'
-events_refused "$(seq 325)" '17, events have five words each, and there are at most 64, found 325 words'
-events_refused '2048 8 337 0 337' '18, event 0 (identifier 2048): the identifier must be 0 to 2047, found 2048'
-events_refused '1 8 337 0 337 2 9 337 0 337' '18, event 1 (identifier 2): the data bytes must be 0 to 8, found 9'
-events_refused '1 8 0 0 337' '18, event 0 (identifier 1): the period must be 1 to 4194304, found 0'
-events_refused '1 8 4194305 0 337' '18, event 0 (identifier 1): the period must be 1 to 4194304, found 4194305'
-events_refused '1 8 337 337 337' '18, event 0 (identifier 1): the jitter must be below the period (337), found 337'
-events_refused '1 8 337 0 338' '18, event 0 (identifier 1): the deadline must be 1 to the period (337), found 338'
-events_refused '1 8 337 0 0' '18, event 0 (identifier 1): the deadline must be 1 to the period (337), found 0'
-events_refused '1 8 337 0 337 1 8 337 0 337' '18, event 1 (identifier 1): it has the identifier of event 0'
-rest='with it and the events of higher priority the bus must come to rest within 16777216 bit times, found a load of at most'
-events_refused '1 8 134 0 134' "19, event 0 (identifier 1): $rest 100.75 %"
-events_refused '1 8 135 0 135 2 0 1000 0 1000' "19, event 0 (identifier 1): $rest 100.00 %"
-events_refused '7 8 4000 0 4000 3 0 56 0 56 5 1 600 0 600' "19, event 0 (identifier 7): $rest 112.43 %"
-events_refused '7 8 4000 0 4000 3 0 56 0 56 5 1 3640 0 3640' "19, event 0 (identifier 7): $rest 103.38 %"
-events_refused '1 6 117 0 117 2 3 4973 1688 4973' "19, event 1 (identifier 2): $rest 100.00 %"
-events_refused "$(for i in $(seq 0 63); do echo "$((2047 - i)) 8 1 0 1"; done)" "19, event 0 (identifier 2047): $rest 864000.00 %"
+refuses '15, @, line 1: 17 messages; the planner takes at most 16: plan a file with the first 16, then extend it' plan "$scratch/many.words"
+each_five='each event has five, and there are at most 64 events'
+events_refused '1 8 337 0' "17, @: 4 words; $each_five; line 1 has 4 words where 5 are due"
+events_refused '1 8 337 0 337\n2 8 337 0 337 1\n3 8 337 0 337' "17, @: 16 words; $each_five; line 2 has 6 words where 5 are due"
+events_refused '1 8 337 0 337\n2 8 337 0\n3 8 337 0 337' "17, @: 14 words; $each_five; line 2 has 4 words where 5 are due"
+events_refused "$(seq 325)" "17, @: 325 words; $each_five"
+events_refused '2048 8 337 0 337' '18, @, line 1, event 0 (0x800): identifier 0x800; it must be 0x000 to 0x7ff'
+events_refused '1 8 337 0 337\n2 9 337 0 337' '18, @, line 2, event 1 (0x002): data bytes 9; it must be 0 to 8'
+events_refused '1 8 0 0 337' '18, @, line 1, event 0 (0x001): period 0; it must be 1 to 4194304'
+events_refused '1 8 4194305 0 337' '18, @, line 1, event 0 (0x001): period 4194305; it must be 1 to 4194304'
+events_refused '1 8 337 337 337' '18, @, line 1, event 0 (0x001): jitter 337; it must be below 337, the period'
+events_refused '1 8 337 0 338' '18, @, line 1, event 0 (0x001): deadline 338; it must be 1 to 337, the period'
+events_refused '1 8 337 0 0' '18, @, line 1, event 0 (0x001): deadline 0; it must be 1 to 337, the period'
+events_refused '1 8 337 0 337\n1 8 337 0 337' '18, @, line 2, event 1 (0x001): identifier 0x001; event 0 has it too, and each must have its own'
+
+# endless WORDS EVENT LOAD: these events are refused with 19 at an event, for a load of at most so many per cent.
+endless() {
+    events_refused "$1" "19, @, $2: with it and the events of higher priority the load is $3 %, rounded up; the bus must come to rest within 16777216 bit times"
+}
+
+endless '1 8 134 0 134' 'line 1, event 0 (0x001)' 100.75
+endless '1 8 135 0 135 2 0 1000 0 1000' 'line 1, event 0 (0x001)' 100.00
+endless '7 8 4000 0 4000 3 0 56 0 56 5 1 600 0 600' 'line 1, event 0 (0x007)' 112.43
+endless '7 8 4000 0 4000 3 0 56 0 56 5 1 3640 0 3640' 'line 1, event 0 (0x007)' 103.38
+endless '1 6 117 0 117\n2 3 4973 1688 4973' 'line 2, event 1 (0x002)' 100.00
+endless "$(for i in $(seq 0 63); do echo "$((2047 - i)) 8 1 0 1"; done)" 'line 1, event 0 (0x7ff)' 864000.00
 edited 26 265
-says 0 '1 1 # message 1, identifier 20' plan "$scratch/edited.words"
+says 0 '1 1 # message 1, identifier 0x020' plan "$scratch/edited.words"
 
 printf '%s\n' '-- shares of the matrix cycle'
 
@@ -246,25 +294,22 @@ times_are() {
     verdict "ttplan times: $2"
 }
 
-run times $e/events.words
-[ "$status" -eq 1 ] && sed -n 's/^    //p' README.md | grep -A 5 -F 'The longest response' | cmp -s - "$scratch/out"
-verdict "ttplan times $e/events.words is the table in README.md"
 three='1 8 337 0 337  2 8 475 0 475  3 8 475 0'
-above='   1     8      337        0      337       270        0       270
-   2     8      475        0      475       405        0       810'
+above=' 0x001     8      337        0      337       270        0       270
+ 0x002     8      475        0      475       405        0       810'
 times_are 0 "$three 475" "$above
-   3     8      475        0      475       470        1       945
+ 0x003     8      475        0      475       470        1       945
 deadlines missed: 0"
 times_are 0 "$three 470" "$above
-   3     8      475        0      470       470        1       945
+ 0x003     8      475        0      470       470        1       945
 deadlines missed: 0"
 times_are 1 "$three 469" "$above
-   3     8      475        0      469       470        1       945  missed
+ 0x003     8      475        0      469       470        1       945  missed
 deadlines missed: 1"
-times_are 0 '1 8 135 0 135' '   1     8      135        0      135       135        0       135
+times_are 0 '1 8 135 0 135' ' 0x001     8      135        0      135       135        0       135
 deadlines missed: 0'
-times_are 1 '1 6 117 0 117 2 3 4973 1687 4973' '   1     6      117        0      117       200        0      5030  missed
-   2     3     4973     1687     4973      1887        0  16777215
+times_are 1 '1 6 117 0 117 2 3 4973 1687 4973' ' 0x001     6      117        0      117       200        0      5030  missed
+ 0x002     3     4973     1687     4973      1887        0  16777215
 deadlines missed: 1'
 times_are 0 '' 'deadlines missed: 0'
 printf '10 6 119 0 119 11 1 1935 1170 1935 12 1 4194304 4194303 4194304' >"$scratch/events"
@@ -327,16 +372,21 @@ cp $e/t1.tsm "$scratch/same.tsm"
 answers 0 'version 2, 91 bytes' up "$scratch/same.tsm" "$scratch/same.tsm"
 cmp -s "$scratch/same.tsm" "$scratch/t1.up"
 verdict 'a file may be moved in its place'
-answers 1 'refused 3, the file is already of version 2' up "$scratch/same.tsm" "$scratch/none.tsm"
-answers 1 'refused 3, the file is already of version 1' back $e/t1.tsm "$scratch/none.tsm"
+answers 1 "refused 3, $scratch/same.tsm: the file is already of version 2" up "$scratch/same.tsm" "$scratch/none.tsm"
+answers 1 "refused 3, $e/t1.tsm: the file is already of version 1" back $e/t1.tsm "$scratch/none.tsm"
 [ ! -e "$scratch/none.tsm" ]
 verdict 'a refused move writes no file'
 sed 's/^200 100 0/200 100 1/' "$scratch/two.words" >"$scratch/kind.words"
-answers 1 'refused 5, column 1 (start 200, width 100): it is an arbitration window (kind 1), which is not taken yet' plan "$scratch/kind.words"
+kinds='0, an exclusive window (1, an arbitration window, is not taken yet)'
+refuses "5, @, line 5, column 1: kind 1; it must be $kinds" plan "$scratch/kind.words"
 sed 's/^200 100 0/200 100 7/' "$scratch/two.words" >"$scratch/kind.words"
-answers 1 'refused 5, column 1 (start 200, width 100): the kind must be 0, an exclusive window, found 7' file "$scratch/kind.words"
-sed 's/^16 0/2147483664 0/' "$scratch/two.words" >"$scratch/long-id.words"
-answers 1 'refused 6, message 0 (identifier 2147483664): the identifier must be 0 to 2047, found 2147483664' plan "$scratch/long-id.words"
+miscounted='; so many words are version 2, with three for a column: if two were meant, columns or messages are miscounted'
+refuses "5, @, line 5, column 1: kind 7; it must be $kinds$miscounted" file "$scratch/kind.words"
+cp "$scratch/t1.up" "$scratch/kind.tsm"
+printf '\7' | dd of="$scratch/kind.tsm" bs=1 seek=25 conv=notrunc 2>/dev/null
+refuses "5, @, byte 25, column 1: kind 7; it must be $kinds" plan "$scratch/kind.tsm"
+sed 's/^0x010 0/0x80000010 0/' "$scratch/two.words" >"$scratch/long-id.words"
+refuses '6, @, line 8, message 0 (0x80000010): identifier 0x80000010; it must be 0x000 to 0x7ff' plan "$scratch/long-id.words"
 
 printf '%s\n' '-- a log against the plan'
 log=$scratch/log
@@ -356,8 +406,8 @@ differs() {
 run due $e/t1.tsm $e/t1.plan 1
 [ "$status" -eq 0 ] && cmp -s "$scratch/out" $e/t1.log
 verdict "ttplan due $e/t1.tsm $e/t1.plan 1 is $e/t1.log"
-says 0 '465 16  # message 0, matrix cycle 0, row 1, column 0' due $e/t1.words $e/t1.plan 1
-says 0 '79600 1  # reference message, matrix cycle 99, row 1' due $e/t1.words $e/t1.plan 100
+says 0 '465 0x010  # message 0, matrix cycle 0, row 1, column 0' due $e/t1.words $e/t1.plan 1
+says 0 '79600 0x001  # reference message, matrix cycle 99, row 1' due $e/t1.words $e/t1.plan 100
 answers 0 'clean: 6 sends in 1 matrix cycle' hold $e/t1.words $e/t1.plan $e/t1.log 1
 printf '0 1 65 16 200 48 400 1 465 16 600 32' >"$log"
 answers 0 'clean: 6 sends in 1 matrix cycle' hold $e/t1.tsm $e/t1.plan "$log" 1
@@ -369,35 +419,34 @@ for name in document-003 press-line; do
 done
 due 1
 sed -i '2{h;d};3G' "$log"
-differs 1 'time 200, identifier 48 (hexadecimal 30): message 2' 'time 65, identifier 16 (hexadecimal 10): message 0, matrix cycle 0, row 0, column 0'
+differs 1 'time 200, identifier 0x030: message 2' 'time 65, identifier 0x010: message 0, matrix cycle 0, row 0, column 0'
 due 1
 sed -i 4d "$log"
-differs 3 'time 465, identifier 16 (hexadecimal 10): message 0' 'time 400, identifier 1 (hexadecimal 1): reference message, matrix cycle 0, row 1'
+differs 3 'time 465, identifier 0x010: message 0' 'time 400, identifier 0x001: reference message, matrix cycle 0, row 1'
 due 1
 sed -i 6d "$log"
-differs 5 'nothing, the log ends there' 'time 600, identifier 32 (hexadecimal 20): message 1, matrix cycle 0, row 1, column 1'
+differs 5 'nothing, the log ends there' 'time 600, identifier 0x020: message 1, matrix cycle 0, row 1, column 1'
 due 1
 echo 800 1 >>"$log"
-differs 6 'time 800, identifier 1 (hexadecimal 1): reference message' 'nothing, the span ends there'
+differs 6 'time 800, identifier 0x001: reference message' 'nothing, the span ends there'
 echo 0 70000 >"$log"
-differs 0 'time 0, identifier 70000: no message of the plan' 'time 0, identifier 1 (hexadecimal 1): reference message, matrix cycle 0, row 0'
+differs 0 'time 0, identifier 0x11170: no message of the plan' 'time 0, identifier 0x001: reference message, matrix cycle 0, row 0'
 : >"$log"
-differs 0 'nothing, the log ends there' 'time 0, identifier 1 (hexadecimal 1): reference message, matrix cycle 0, row 0'
+differs 0 'nothing, the log ends there' 'time 0, identifier 0x001: reference message, matrix cycle 0, row 0'
 due 1
 for span in 0 101; do
-    wrong="refused 24, the span must be 1 to 100 matrix cycles, found $span"
-    answers 1 "$wrong" hold $e/t1.tsm $e/t1.plan "$log" "$span"
-    answers 1 "$wrong" due $e/t1.tsm $e/t1.plan "$span"
+    wrong="24, SPAN $span; it must be 1 to 100 matrix cycles"
+    answers 1 "refused $wrong" hold $e/t1.tsm $e/t1.plan "$log" "$span"
+    refuses "$wrong" due $e/t1.tsm $e/t1.plan "$span"
 done
 echo 800 >>"$log"
-answers 1 'refused 24, the log must have an even count of words, found 13' hold $e/t1.tsm $e/t1.plan "$log" 1
+answers 1 "refused 24, $log: 13 words; a log has two for each send, its time and its identifier" hold $e/t1.tsm $e/t1.plan "$log" 1
 answers 1 "$meeting" hold $e/t1.tsm $e/t1-meeting.plan "$log" 1
-answers 1 "$meeting" due $e/t1.tsm $e/t1-meeting.plan 1
-wrong='not a whole number from 0 to 4,294,967,295: times are whole network time units (bit times), without a point or a unit'
+refuses "${meeting#refused }" due $e/t1.tsm $e/t1-meeting.plan 1
 printf '0 1 # start\n50.5 16\n' >"$log"
-is_bad "log, line 2, column 1: $wrong" hold $e/t1.tsm $e/t1.plan "$log" 1
+is_bad 'log, line 2, character 1: 50.5: a decimal point; numbers are whole' hold $e/t1.tsm $e/t1.plan "$log" 1
 printf '0 1\n\n  50us 16\n' >"$log"
-is_bad "log, line 3, column 3: $wrong" hold $e/t1.tsm $e/t1.plan "$log" 1
+is_bad 'log, line 3, character 3: 50us: a unit; times are whole network time units' hold $e/t1.tsm $e/t1.plan "$log" 1
 
 printf '%s\n' '-- long logs'
 due 100
@@ -406,7 +455,7 @@ awk '{ printf "%s %120s\n", $0, "." }' "$log" >"$scratch/long"
 verdict 'the log is longer than 65,536 bytes'
 answers 0 'clean: 600 sends in 100 matrix cycles' hold $e/t1.tsm $e/t1.plan "$scratch/long" 100
 printf '80000 1\n 80065,5 16\n' >>"$scratch/long"
-is_bad "long, line 602, column 2: $wrong" hold $e/t1.tsm $e/t1.plan "$scratch/long" 100
+is_bad 'long, line 602, character 2: 80065,5: a comma' hold $e/t1.tsm $e/t1.plan "$scratch/long" 100
 (cat "$log" && printf '# ' && head -c 65533 /dev/zero | tr '\0' '.' && printf '\n#\n') >"$scratch/long"
 answers 0 'clean: 600 sends in 100 matrix cycles' hold $e/t1.tsm $e/t1.plan "$scratch/long" 100
 (cat "$log" && printf '# ' && head -c 65534 /dev/zero | tr '\0' '.' && printf '\n#\n') >"$scratch/long"
@@ -414,7 +463,7 @@ is_bad 'long, line 601: a line of a log has at most 65,535 bytes' hold $e/t1.tsm
 seq 422402 >"$scratch/long"
 says 1 'differs at pair 0' hold $e/t1.tsm $e/t1.plan "$scratch/long" 100
 echo 1 >>"$scratch/long"
-is_bad 'long, line 422403, column 1: more than 422,402 words, where at most 422,400 can be due' hold $e/t1.tsm $e/t1.plan "$scratch/long" 100
+is_bad 'long, line 422403, character 1: more than 422,402 words, where at most 422,400 can be due' hold $e/t1.tsm $e/t1.plan "$scratch/long" 100
 (
     echo 64 5000 65 1 32 32 64
     for c in $(seq 0 31); do echo $((65 + 140 * c)) 135; done
@@ -443,8 +492,8 @@ replanned() {
 
 # kept_refused KEPT TEXT: T1 with these placements kept is refused with this text. (16 cannot be met at the desk, which has room for every plan.)
 kept_refused() {
-    echo "$1" >"$kept"
-    answers 1 "refused $2" replan $e/t1.words "$kept"
+    printf '%b\n' "$1" >"$kept"
+    refuses "$2" replan $e/t1.words "$kept"
 }
 
 echo '- - - - - -' >"$kept"
@@ -455,27 +504,33 @@ replanned '- - - - 2 1 # the last message stays' '0 0 1 1 2 1'
 replanned '- - - - 2 0' '0 0 1 1 2 0'
 replanned '4294967295 4294967295 1 1 - -' '0 0 1 1 1 0'
 replanned '0 0 1 1 2 1' '0 0 1 1 2 1'
-kept_refused '0 0 1 1 1' '9, 3 messages need a kept list of 6 words, found 5'
-kept_refused '- - -' '9, 3 messages need a kept list of 6 words, found 3'
-kept_refused '0 0 1 1 3 0' '10, kept message 2 (identifier 48): the column must be 0 to 2, found 3'
-kept_refused '- - 1 2 - -' '10, kept message 1 (identifier 32): the base row must be 0 to 1, found 2'
-kept_refused '- 0 - - - -' '10, kept message 0 (identifier 16): the column must be 0 to 2, found 4294967295'
-kept_refused '0 0 1 - - -' '10, kept message 1 (identifier 32): the base row must be 0 to 1, found 4294967295'
-kept_refused '1 0 - - - -' '11, kept message 0 (identifier 16): its frame takes 135, and column 1 is 100 wide'
-kept_refused '- - 1 0 - -' '12, kept message 1 (identifier 32) in column 1, base row 0: it waits 600 and its frame takes 65, 665 in all, and its deadline is 300'
-kept_refused '0 0 - - 0 1' '13, kept message 2 (identifier 48) meets kept message 0 (identifier 16) in column 0, row 1'
-kept_refused '- - - - 1 1' '14, no acceptable proposal keeps the kept placements'
+kept_refused '0 0 1 1 1' '9, @: 5 words; 3 messages need 6, column and base row of each'
+kept_refused '- -\n-\n- -' '9, @: 5 words; 3 messages need 6, column and base row of each; line 2 has 1 word where 2 are due'
+kept_refused '0 0\n1 1\n3 0' '10, @, line 3, kept message 2 (0x030): column 3; it must be 0 to 2'
+kept_refused '- - 1 2 - -' '10, @, line 1, kept message 1 (0x020): base row 2; it must be 0 to 1'
+kept_refused '- 0 - - - -' '10, @, line 1, kept message 0 (0x010): column -, none, beside a number; it must be 0 to 2'
+kept_refused '0 0 1 - - -' '10, @, line 1, kept message 1 (0x020): base row -, none, beside a number; it must be 0 to 1'
+kept_refused '1 0 - - - -' '11, @, line 1, kept message 0 (0x010): column 1 is 100 wide, and its frame takes 135; wide enough: 0'
+late='it waits 600 and its frame takes 65, in all 665; its deadline is 300, so that it is late by 365'
+kept_refused '- -\n1 0\n- -' "12, @, line 2, kept message 1 (0x020): in column 1, base row 0 $late"
+kept_refused '0 0\n- -\n0 1' '13, @, line 3, kept message 2 (0x030) meets kept message 0 (0x010), line 1, in column 0, row 1'
+crowd=': no plan exists that keeps the kept placements'
+kept_refused '- - - - 1 1' "14, $e/t1.words$crowd; $crowded"
+kept_refused '0 0 - - 1 1' "14, $e/t1.words$crowd
+no place even alone, line 10, message 1 (0x020): kept messages have all of its places"
 for i in $(seq 17); do echo - -; done >"$kept"
-answers 1 'refused 15, the planner takes at most 16 messages without a kept placement, found 17' replan "$scratch/many.words" "$kept"
+refuses "15, $scratch/many.words, line 1: 17 messages without a kept placement; the planner takes at most 16" replan "$scratch/many.words" "$kept"
 (echo 0 0 && tail -n +2 "$kept") >"$scratch/one-kept"
-answers 1 'refused 14, no acceptable proposal keeps the kept placements' replan "$scratch/many.words" "$scratch/one-kept"
+run replan "$scratch/many.words" "$scratch/one-kept"
+[ "$status" -eq 1 ] && [ ! -s "$scratch/out" ] && [ "$(head -n 1 "$scratch/err")" = "refused 14, $scratch/many.words$crowd" ] && [ "$(grep -c '^no place even alone, line ' "$scratch/err")" -eq 16 ]
+verdict 'ttplan replan: 16 messages have no place beside the one that is kept, each named with its line'
 (head -n 48 "$scratch/full.plan" && for i in $(seq 16); do echo - -; done) >"$kept"
 run replan "$scratch/full.words" "$kept"
 [ "$status" -eq 0 ] && [ "$(words_of "$scratch/out")" = "$(words_of "$scratch/full.plan")" ]
 verdict 'ttplan replan plans 16 of 64 messages'
 edited 2 64
-answers 1 'refused 4, byte 8: the reference window must be 65 to B (400), found 64' replan "$scratch/edited.words" "$kept"
-answers 1 'refused 1, 3 columns and 3 messages make a file of version 1 of 82 bytes, found 81' replan "$scratch/length.tsm" "$kept"
+refuses "4, $scratch/edited.words, line 3: reference window 64; it must be 65 to 400, the basic cycle" replan "$scratch/edited.words" "$kept"
+refuses "1, $scratch/length.tsm: 81 bytes; 3 columns and 3 messages make a file of version 1 of 82" replan "$scratch/length.tsm" "$kept"
 
 printf '%s\n' '-- a line extended'
 old="$e/press-line.words $e/press-line.plan"
@@ -491,15 +546,13 @@ extended() {
 
 # extend_refused NEW TEXT: NEW in the place of T1 with T1's plan is refused with this text.
 extend_refused() {
-    answers 1 "refused $2" extend "$1" $e/t1.words $e/t1.plan
+    refuses "$2" extend "$1" $e/t1.words $e/t1.plan
 }
 
 run extend $e/press-line-2.words $old
 [ "$status" -eq 0 ] && cmp -s "$scratch/out" $e/press-line-2.plan
 verdict "ttplan extend $e/press-line-2.words $old is $e/press-line-2.plan"
-sed -n 's/^    //p' README.md | grep -A 21 -F '# The matrix; a new message' | cmp -s - <(sed -n '/^# The matrix/,$p' $e/press-line-2.plan | grep .)
-verdict "$e/press-line-2.plan is in README.md"
-says 0 '2 2 # message 3, identifier 31' plan $e/press-line-2.words
+says 0 '2 2 # message 3, identifier 0x031' plan $e/press-line-2.words
 says 0 'used             2220    55.50 %' check $e/press-line-2.words $e/press-line-2.plan
 for n in 0 1 4; do
     ./ttplan lists $old $n >"$scratch/list"
@@ -517,35 +570,35 @@ verdict 'ttplan extend takes problem files of both versions'
 stayed='# nodes with a changed trigger list: none
 # nodes whose trigger list stayed: 0 1 2 3 4 5 6 7 8 9 10 11 12 13 14 15'
 extended $e/t1.tsm $e/t1.words $e/t1.plan "# new  none
-# kept 0x10 in column 0, base row 0
-# kept 0x20 in column 1, base row 1
-# kept 0x30 in column 1, base row 0
+# kept 0x010 in column 0, base row 0
+# kept 0x020 in column 1, base row 1
+# kept 0x030 in column 1, base row 0
 # gone none
 
 $stayed"
 edited 20 33
-extended "$scratch/edited.words" $e/t1.words $e/t1.plan '# new  0x21 in column 1, base row 1
-# kept 0x10 in column 0, base row 0
-# kept 0x30 in column 1, base row 0
-# gone 0x20 in column 1, base row 1
+extended "$scratch/edited.words" $e/t1.words $e/t1.plan '# new  0x021 in column 1, base row 1
+# kept 0x010 in column 0, base row 0
+# kept 0x030 in column 1, base row 0
+# gone 0x020 in column 1, base row 1
 
 # nodes with a changed trigger list: 0 1
 # nodes whose trigger list stayed: 2 3 4 5 6 7 8 9 10 11 12 13 14 15'
-says 0 '# cycle   1     1    10   21*     .' extend "$scratch/edited.words" $e/t1.words $e/t1.plan
+says 0 '# cycle  1  0x001  0x010 0x021*      .' extend "$scratch/edited.words" $e/t1.words $e/t1.plan
 echo '0 0 1 1 2 1' >"$scratch/other.plan"
-awk '/^16 /{ last = $0; next } { print } END { print last }' $e/t1.words >"$scratch/turned.words"
+awk '/^0x010 /{ last = $0; next } { print } END { print last }' $e/t1.words >"$scratch/turned.words"
 extended "$scratch/turned.words" $e/t1.words "$scratch/other.plan" "# new  none
-# kept 0x20 in column 1, base row 1
-# kept 0x30 in column 2, base row 1
-# kept 0x10 in column 0, base row 0
+# kept 0x020 in column 1, base row 1
+# kept 0x030 in column 2, base row 1
+# kept 0x010 in column 0, base row 0
 # gone none
 
 $stayed"
 echo '2 400 65 1 32 3 0 65 135 200 100 300 100' >"$scratch/empty.words"
 : >"$scratch/empty.plan"
-extended $e/t1.words "$scratch/empty.words" "$scratch/empty.plan" '# new  0x10 in column 0, base row 0
-# new  0x20 in column 1, base row 1
-# new  0x30 in column 1, base row 0
+extended $e/t1.words "$scratch/empty.words" "$scratch/empty.plan" '# new  0x010 in column 0, base row 0
+# new  0x020 in column 1, base row 1
+# new  0x030 in column 1, base row 0
 # kept none
 # gone none
 
@@ -553,9 +606,9 @@ extended $e/t1.words "$scratch/empty.words" "$scratch/empty.plan" '# new  0x10 i
 # nodes whose trigger list stayed: 2 3 4 5 6 7 8 9 10 11 12 13 14 15'
 extended "$scratch/empty.words" $e/t1.words $e/t1.plan '# new  none
 # kept none
-# gone 0x10 in column 0, base row 0
-# gone 0x20 in column 1, base row 1
-# gone 0x30 in column 1, base row 0
+# gone 0x010 in column 0, base row 0
+# gone 0x020 in column 1, base row 1
+# gone 0x030 in column 1, base row 0
 
 # nodes with a changed trigger list: 0 1
 # nodes whose trigger list stayed: 2 3 4 5 6 7 8 9 10 11 12 13 14 15'
@@ -568,26 +621,28 @@ run extend "$scratch/full.words" "$scratch/fewer.words" "$scratch/fewer.plan"
 [ "$status" -eq 0 ] && [ "$(words_of "$scratch/out")" = "$(words_of "$scratch/full.plan")" ] && [ "$(grep -c '^# new  0x' "$scratch/out")" -eq 4 ] && [ "$(awk '{ if (length($0) > most) most = length($0) } END { print most }' "$scratch/out")" -le 80 ]
 verdict 'ttplan extend adds 4 messages to 60, and fits 80 columns'
 edited 8 130
-extend_refused "$scratch/edited.words" '11, kept message 0 (identifier 16): its frame takes 135, and column 0 is 130 wide'
-sed 's/^48 1 4 1 800 0 800/48 1 4 1 800 0 290/' $e/t1.words >"$scratch/changed.words"
-extend_refused "$scratch/changed.words" '12, kept message 2 (identifier 48) in column 1, base row 0: it waits 200 and its frame takes 95, 295 in all, and its deadline is 290'
-sed 's/^48 1 4 1 800 0 800/48 1 4 1 400 0 400/' $e/t1.words >"$scratch/changed.words"
-extend_refused "$scratch/changed.words" '13, kept message 2 (identifier 48) meets kept message 1 (identifier 32) in column 1, row 1'
+extend_refused "$scratch/edited.words" "11, $scratch/edited.words, line 14, kept message 0 (0x010): column 0 is 130 wide, and its frame takes 135; wide enough: none"
+sed 's/^0x030 1 4 1 800 0 800/0x030 1 4 1 800 0 290/' $e/t1.words >"$scratch/changed.words"
+extend_refused "$scratch/changed.words" "12, $scratch/changed.words, line 11, kept message 2 (0x030): in column 1, base row 0 it waits 200 and its frame takes 95, in all 295; its deadline is 290, so that it is late by 5"
+sed 's/^0x030 1 4 1 800 0 800/0x030 1 4 1 400 0 400/' $e/t1.words >"$scratch/changed.words"
+extend_refused "$scratch/changed.words" "13, $scratch/changed.words, line 11, kept message 2 (0x030) meets kept message 1 (0x020), line 10, in column 1, row 1"
 edited 26 800
 echo '0 0 1 0 1 1' >"$scratch/other.plan"
-sed 's/^32 /33 /' $e/t1.words >"$scratch/changed.words"
-answers 1 'refused 14, no acceptable proposal keeps the kept placements' extend "$scratch/changed.words" "$scratch/edited.words" "$scratch/other.plan"
-answers 1 'refused 15, the planner takes at most 16 messages without a kept placement, found 17' extend "$scratch/many.words" "$scratch/empty.words" "$scratch/empty.plan"
+sed 's/^0x020 /0x021 /' $e/t1.words >"$scratch/changed.words"
+refuses "14, $scratch/changed.words$crowd
+no place even alone, line 10, message 1 (0x021): kept messages have all of its places" extend "$scratch/changed.words" "$scratch/edited.words" "$scratch/other.plan"
+refuses "15, $scratch/many.words, line 1: 17 messages without a kept placement; the planner takes at most 16" extend "$scratch/many.words" "$scratch/empty.words" "$scratch/empty.plan"
 edited 2 64
-extend_refused "$scratch/edited.words" '4, byte 8: the reference window must be 65 to B (400), found 64'
-extend_refused "$scratch/length.tsm" '1, 3 columns and 3 messages make a file of version 1 of 82 bytes, found 81'
-answers 1 'refused 4, old problem: byte 8: the reference window must be 65 to B (400), found 64' extend $e/t1.tsm "$scratch/edited.words" $e/t1.plan
-answers 1 'refused 1, old problem: 3 columns and 3 messages make a file of version 1 of 82 bytes, found 81' extend $e/t1.tsm "$scratch/length.tsm" $e/t1.plan
+window="$scratch/edited.words, line 3: reference window 64; it must be 65 to 400, the basic cycle"
+extend_refused "$scratch/edited.words" "4, $window"
+extend_refused "$scratch/length.tsm" "1, $scratch/length.tsm: 81 bytes; 3 columns and 3 messages make a file of version 1 of 82"
+refuses "4, $window" extend $e/t1.tsm "$scratch/edited.words" $e/t1.plan
+refuses "1, $scratch/length.tsm: 81 bytes; 3 columns and 3 messages make a file of version 1 of 82" extend $e/t1.tsm "$scratch/length.tsm" $e/t1.plan
 for new in $e/t1.tsm "$scratch/edited.words"; do
-    answers 1 "${meeting/13,/13, old plan:}" extend "$new" $e/t1.words $e/t1-meeting.plan
+    refuses "${meeting#refused }" extend "$new" $e/t1.words $e/t1-meeting.plan
 done
 echo '0 0 1 1 1' >"$scratch/p"
-answers 1 'refused 9, old plan: 3 messages need a proposal of 6 words, found 5' extend $e/t1.tsm $e/t1.tsm "$scratch/p"
+refuses '9, @: 5 words; 3 messages need 6, column and base row of each' extend $e/t1.tsm $e/t1.tsm "$scratch/p"
 
 printf '%s\n' '-- bad use'
 is_bad 'no such command' frobnicate
@@ -603,38 +658,169 @@ is_bad 'use: ttplan times EVENTS' times
 is_bad 'use: ttplan up FILE OUT' up $e/t1.tsm
 is_bad 'use: ttplan back FILE OUT' back $e/t1.tsm
 is_bad 'Is a directory' up $e/t1.tsm "$scratch"
+cp $e/t1.words "$scratch/own.words"
+is_bad 'OUT is the word list that is read; a problem file needs a name of its own' up "$scratch/own.words" "$scratch/own.words"
+cmp -s "$scratch/own.words" $e/t1.words
+verdict 'a word list is not overwritten by its problem file'
+is_bad 'OUT is the name of a file, and - is none' up $e/t1.tsm -
+for arguments in "check $e/t1.words $e/t1.tsm" "file $e/t1.tsm" "times $e/t1.tsm"; do
+    is_bad "$e/t1.tsm, line 1, character 1: a problem file, where a word list is due; ttplan words makes one of it" $arguments
+done
 is_bad 'No such file or directory' up $e/t1.tsm "$scratch/nowhere/out.tsm"
 is_bad 'use: ttplan hold FILE PROPOSAL LOG SPAN' hold $e/t1.tsm $e/t1.plan 1
 is_bad 'use: ttplan due FILE PROPOSAL SPAN' due $e/t1.tsm $e/t1.plan
-is_bad 'SPAN is a number of matrix cycles from 1 to 100' due $e/t1.tsm $e/t1.plan one
+is_bad 'SPAN is a number of matrix cycles from 1 to 100, and not one' due $e/t1.tsm $e/t1.plan one
 is_bad 'nowhere.log: No such file or directory' hold $e/t1.tsm $e/t1.plan "$scratch/nowhere.log" 1
 is_bad 'Is a directory' hold $e/t1.tsm $e/t1.plan "$scratch" 1
 is_bad 'nowhere.words: No such file or directory' plan "$scratch/nowhere.words"
 is_bad 'Is a directory' plan "$scratch"
 head -c 65537 /dev/zero >"$scratch/long.tsm"
 is_bad 'longer than 65,536 bytes' plan "$scratch/long.tsm"
-printf '# one\n2 400 six\n' >"$scratch/bad.words"
-is_bad 'bad.words, line 2, column 7: not a whole number' plan "$scratch/bad.words"
-printf '2 4294967296' >"$scratch/bad.words"
-is_bad 'line 1, column 3: not a whole number' plan "$scratch/bad.words"
-printf '2 -1' >"$scratch/bad.words"
-is_bad 'line 1, column 3: not a whole number' check $e/t1.tsm "$scratch/bad.words"
-printf '0 0\n- one' >"$scratch/bad.words"
-is_bad 'line 2, column 3: not a whole number from 0 to 4,294,967,295, and not a - for none' replan $e/t1.tsm "$scratch/bad.words"
-printf '0 0 -1 0 - -' >"$scratch/bad.words"
-is_bad 'line 1, column 5: not a whole number from 0 to 4,294,967,295, and not a - for none' replan $e/t1.tsm "$scratch/bad.words"
-printf '0 0 - -' >"$scratch/bad.words"
-is_bad 'line 1, column 5: not a whole number' check $e/t1.tsm "$scratch/bad.words"
-is_bad 'line 1, column 5: not a whole number' extend $e/t1.tsm $e/t1.tsm "$scratch/bad.words"
+seq 1025 >"$scratch/bad.words"
+is_bad 'line 1025, character 1: a word list has at most 1,024 words' replan $e/t1.tsm "$scratch/bad.words"
+is_bad 'line 1025, character 1: a word list has at most 1,024 words' plan "$scratch/bad.words"
 is_bad 'nowhere.plan: No such file or directory' replan $e/t1.tsm "$scratch/nowhere.plan"
 is_bad 'nowhere.plan: No such file or directory' extend $e/t1.tsm $e/t1.tsm "$scratch/nowhere.plan"
 is_bad 'nowhere.tsm: No such file or directory' extend $e/t1.tsm "$scratch/nowhere.tsm" $e/t1.plan
 is_bad 'nowhere.tsm: No such file or directory' extend "$scratch/nowhere.tsm" $e/t1.tsm $e/t1.plan
-seq 1025 >"$scratch/bad.words"
-is_bad 'line 1025, column 1: a word list has at most 1,024 words' replan $e/t1.tsm "$scratch/bad.words"
-is_bad 'line 1025, column 1: a word list has at most 1,024 words' plan "$scratch/bad.words"
-is_bad 'NODE is a number from 0 to 15' lists $e/t1.tsm $e/t1.plan 16
-is_bad 'NODE is a number from 0 to 15' lists $e/t1.tsm $e/t1.plan one
+is_bad 'NODE is a number from 0 to 15, and not 16' lists $e/t1.tsm $e/t1.plan 16
+is_bad 'NODE is a number from 0 to 15, and not one' lists $e/t1.tsm $e/t1.plan one
+
+printf '%s\n' '-- words that are no numbers'
+
+# hinted TEXT HINT ARGUMENTS: a word list of this text (as printf writes it) is bad use, and the sentence says where, and then this.
+hinted() {
+    local text=$1 hint=$2
+    shift 2
+    printf '%b' "$text" >"$scratch/bad.words"
+    is_bad "bad.words, $hint" "$@" "$scratch/bad.words"
+}
+
+bit_times='times are whole network time units (bit times), written without one'
+hinted '# one\n2 400 six\n' 'line 2, character 7: six: not a whole number, decimal or with 0x in front hexadecimal' plan
+hinted '2 0x1g' 'line 1, character 3: 0x1g: not a whole number, decimal or with 0x in front hexadecimal' plan
+hinted '2 0x' 'line 1, character 3: 0x: not a whole number' plan
+hinted '2 0x100000000' 'line 1, character 3: 0x100000000: larger than 4,294,967,295, the largest number' plan
+hinted '2 7FF' 'line 1, character 3: 7FF: hexadecimal digits have 0x in front' plan
+hinted '2 5 ms' "line 1, character 5: ms: a unit; $bit_times" plan
+hinted '2 25\0302\0265s' "line 1, character 3: 25µs: a unit; $bit_times" plan
+for word in 12O0 1:2 2_500 0-15 20h 0X20 '2500;' '\0342\0210\022230'; do
+    hinted "2 $word" "line 1, character 3: $(printf '%b' "$word"): not a whole number, decimal or with 0x in front hexadecimal" plan
+done
+hinted "2 $(printf '%040d' 7)x" 'line 1, character 3: 00000000000000000000000000000000..: not a whole number' plan
+hinted '2 a\0007' 'line 1, character 3: a?: not a whole number' plan
+hinted '2 4294967296' 'line 1, character 3: 4294967296: larger than 4,294,967,295, the largest number' plan
+hinted '2 -1' 'line 1, character 3: -1: no number is below 0' check $e/t1.tsm
+hinted '2 400,5' 'line 1, character 3: 400,5: a comma; only white space parts numbers, and they have no comma in them' file
+hinted '2 4.5' 'line 1, character 3: 4.5: a decimal point; numbers are whole, and times are network time units (bit times)' words
+hinted '2 10ms' "line 1, character 3: 10ms: a unit; $bit_times" times
+hinted '2\0302\0240400' 'line 1, character 1: a no-break space; write a plain space' plan
+hinted '2\0240400' 'line 1, character 1: a no-break space; write a plain space' plan
+hinted '2 caf\0303\0240' 'line 1, character 3: cafà: not a whole number' plan
+hinted '\0377\03762\0' 'line 1, character 1: the text is UTF-16; save it as UTF-8 or as plain text' plan
+hinted '\0376\0377\0002' 'line 1, character 1: the text is UTF-16; save it as UTF-8 or as plain text' plan
+hinted '2\0 \0004\0' 'line 1, character 1: the text is UTF-16; save it as UTF-8 or as plain text' plan
+hinted '0 0\n- one' 'line 2, character 3: one: not a whole number, decimal or with 0x in front hexadecimal; a - by itself is none' replan $e/t1.tsm
+hinted '0 0 -1 0 - -' 'line 1, character 5: -1: no number is below 0; a - by itself is none' replan $e/t1.tsm
+hinted '0 0 - -' 'line 1, character 5: -: a - is for none, in a kept list (replan) alone' check $e/t1.tsm
+hinted '0 0 - -' 'line 1, character 5: -: a - is for none, in a kept list (replan) alone' extend $e/t1.tsm $e/t1.tsm
+hinted '\0357\0273\02772 x' 'line 1, character 3: x: not a whole number' plan
+(printf '\357\273\277' && cat $e/t1.words) >"$scratch/bom.words"
+run plan "$scratch/bom.words"
+[ "$status" -eq 0 ] && cmp -s "$scratch/out" $e/t1.plan
+verdict 'a byte order mark of UTF-8 is skipped'
+(printf '\357\273\277' && cat $e/t1.log) >"$scratch/bom.log"
+answers 0 'clean: 6 sends in 1 matrix cycle' hold $e/t1.tsm $e/t1.plan "$scratch/bom.log" 1
+sed 's/^0x010 /16 /; s/^0x020 /0x20 /; s/^0x030 /0x0030 /; s/ 800 0 800$/ 0x320 0x0 0x320/' $e/t1.words >"$scratch/hex.words"
+run plan "$scratch/hex.words"
+[ "$status" -eq 0 ] && cmp -s "$scratch/out" $e/t1.plan
+verdict 'decimal and hexadecimal numbers are read alike in word lists'
+run words $e/t1.tsm
+grep -qx '2 400 65 0x001 32 3 3' "$scratch/out" && grep -qx '0x020 1 1 1 800 400 300' "$scratch/out"
+verdict 'ttplan words shows identifiers as it reads them'
+
+printf '%s\n' '-- a plan and its problem'
+mark=$(sed -n 's/^# problem //p' $e/t1.plan)
+[[ $mark =~ ^[0-9a-f]{8}$ ]] && [ "$(head -n 1 $e/t1.plan)" = "# problem $mark" ]
+verdict 'a plan begins with the mark of its problem'
+other=$(sed -n 's/^# problem //p' $e/press-line.plan)
+is_bad "ttplan: $e/press-line.plan was made for problem $other, and $e/t1.words is problem $mark; plan it anew, or take the line # problem out to use the plan as it stands" check $e/t1.words $e/press-line.plan
+for command in show lists; do
+    is_bad "was made for problem $other, and $e/t1.tsm is problem $mark" $command $e/t1.tsm $e/press-line.plan
+done
+is_bad "was made for problem $other" hold $e/t1.tsm $e/press-line.plan $e/t1.log 1
+is_bad "was made for problem $other" due $e/t1.tsm $e/press-line.plan 1
+is_bad "ttplan: $e/press-line.plan was made for problem $other, and $e/t1.tsm is problem $mark" extend $e/press-line-2.words $e/t1.tsm $e/press-line.plan
+for k in $(seq 0 33); do
+    edited "$k" 7
+    run words "$scratch/edited.words"
+    [ "$status" -eq 0 ] && is_bad 'was made for problem' check "$scratch/edited.words" $e/t1.plan
+done
+sed 1d $e/t1.plan >"$scratch/bare.plan"
+says 0 accepted check $e/t1.tsm "$scratch/bare.plan"
+(echo '# problem with the feeder' && echo '# problem 12345678x' && cat "$scratch/bare.plan") >"$scratch/comment.plan"
+says 0 accepted check $e/t1.tsm "$scratch/comment.plan"
+sed '1s/.*/# problem 00000000/' $e/t1.plan >"$scratch/marked.plan"
+is_bad 'was made for problem 00000000' check $e/t1.tsm "$scratch/marked.plan"
+run replan $e/t1.tsm "$scratch/marked.plan"
+[ "$status" -eq 0 ] && cmp -s "$scratch/out" $e/t1.plan
+verdict 'a kept list is not held to a problem'
+
+printf '%s\n' '-- standard input'
+./ttplan plan - <$e/t1.words >"$scratch/out" && cmp -s "$scratch/out" $e/t1.plan
+verdict 'ttplan plan - reads words'
+./ttplan words - <$e/t1.tsm | ./ttplan file - | cmp -s - $e/t1.tsm
+verdict 'ttplan words - reads a problem file, ttplan file - its words'
+./ttplan plan $e/t1.tsm | ./ttplan check $e/t1.tsm - >"$scratch/out"
+[ "$(head -n 1 "$scratch/out")" = accepted ]
+verdict 'ttplan plan FILE | ttplan check FILE -'
+./ttplan due $e/t1.tsm $e/t1.plan 100 | ./ttplan hold $e/t1.tsm $e/t1.plan - 100 >"$scratch/out"
+[ "$(cat "$scratch/out")" = 'clean: 600 sends in 100 matrix cycles' ]
+verdict 'ttplan hold reads a log from standard input'
+echo 2 400 64 >"$scratch/short.words"
+./ttplan plan - <"$scratch/short.words" >"$scratch/out" 2>"$scratch/err"
+[ "$(cat "$scratch/err")" = 'refused 1, standard input: 3 words; a problem has at least the 7 of its header' ]
+verdict 'standard input is named in a refusal'
+
+printf '%s\n' '-- the manual and the README'
+
+# typed FILE: all that FILE shows as typed in (indented, behind a dollar sign) answers, in a folder of its own, with the lines below it.
+typed() {
+    local line command='' wanted=''
+    mkdir -p "$scratch/typed"
+    ln -sfn "$PWD/ttplan" "$scratch/typed/ttplan"
+    ln -sfn "$PWD/examples" "$scratch/typed/examples"
+    while IFS= read -r line; do
+        if [[ $line == '    $ '* || $line != '    '* ]] && [ -n "$command" ]; then
+            (cd "$scratch/typed" && eval "$command") >"$scratch/out" 2>"$scratch/err"
+            status=$?
+            [ "$(cat "$scratch/out" "$scratch/err")" = "${wanted%$'\n'}" ]
+            verdict "$1: $command"
+            command='' wanted=''
+        fi
+        case $line in
+        '    $ '*) command=${line#'    $ '} ;;
+        '    '*) [ -z "$command" ] || wanted+=${line#'    '}$'\n' ;;
+        esac
+    done < <(cat "$1" && echo)
+}
+
+typed docs/MANUAL.md
+sed -n 's/^    //p' README.md | grep -A 10 '^window' | cmp -s - <(./ttplan | grep -A 10 -m 1 '^window')
+verdict 'README.md shows the example as it is planned'
+grep -q '^    refused 7, my.words, line 31, message 5 (0x050): period 15000; it must be 1000 times 1, 2 or 4$' README.md && grep -qF 'refused 7, my.words, line 31, message 5' docs/MANUAL.md
+verdict "README.md shows a refusal of docs/MANUAL.md"
+sed -n 's/^    //p' docs/MANUAL.md | grep -A 21 -F '# The matrix; a new message' | cmp -s - <(sed -n '/^# The matrix/,$p' $e/press-line-2.plan | grep .)
+verdict "docs/MANUAL.md shows what $e/press-line-2.plan changes"
+: >"$scratch/out"
+for compiler in 'gcc -std=c99' 'g++ -std=c++11 -x c++'; do
+    command -v "${compiler%% *}" >/dev/null || continue
+    for file in examples/c/*.c; do
+        $compiler -Wall -Wextra -pedantic -Werror -fsyntax-only -Iinclude "$file" 2>"$scratch/err"
+        verdict "$compiler takes $file"
+    done
+done
+. tests/script.sh
 
 printf '%s tried, %s failed\n' "$tried" "$failed"
 [ "$failed" -eq 0 ]

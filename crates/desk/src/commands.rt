@@ -1,17 +1,18 @@
-// The commands: what each is given and what it answers. The first word on standard output is done, accepted, clean, differs or refused.
+// The commands: what each is given and what it answers. The first line on standard error tells the script what came of it: done, missed, differs, refused and why,
+// or that the program is used otherwise.
 use super::example;
 use super::extending;
-use super::holding;
 use super::listing;
 use files::input;
 use files::input::Use;
+use files::mark;
 use files::output;
 use judge::Judged;
+use origin::Subject;
 use planner::answer::Planned;
 use problem::Layout;
 use problem::layout::version_of;
 use problem::recast::column_words;
-use reasons::Subject;
 use response::Responded;
 use versions::Moved;
 use views::matrix;
@@ -22,14 +23,13 @@ ghost use Rattle.rules.specs.Problem.{WellFormed};
 // The node that stands for all of them.
 const ALL_NODES: u32 = rules::words::NODES;
 
-// What the first argument asks for. Losses are shown by check; their name is known so that its user is told so.
+// What the first argument asks for.
 enum Command {
     Show,
     Check,
     Plan,
     Replan,
     Extend,
-    Losses,
     Lists,
     Hold,
     Due,
@@ -38,7 +38,6 @@ enum Command {
     File,
     Up,
     Back,
-    Help,
     Unknown,
 }
 
@@ -54,14 +53,6 @@ enum View {
 
 // ---- answers
 
-// The word that the exit status is taken from.
-fn begin(view: View) {
-    match view {
-        View::Verdict => paper::line(b"accepted"),
-        _ => paper::line(b"done"),
-    }
-}
-
 // Shows the problem of a file of that version.
 fn show_problem(layout: Layout, p: &[u32])
     requires { ⌜ WellFormed (now p) ⌝ }
@@ -74,22 +65,22 @@ fn show_problem(layout: Layout, p: &[u32])
 fn present(view: View, layout: Layout, p: &[u32], w: &[u32])
     requires { ⌜ WellFormed (now p) ⌝ }
 {
-    begin(view);
+    paper::say(b"done\n");
     match view {
-        View::Verdict => {}
+        View::Verdict => paper::line(b"accepted"),
         View::Problem => {
             show_problem(layout, p);
             matrix::show(p, w, &[], Form::Windows);
         }
         View::Words => tables::problem_words(p, column_words(layout)),
-        View::Proposal => tables::proposal_words(p, w),
+        View::Proposal => tables::proposal_words(p, w, mark::of(p)),
         View::Matrix => {
             show_problem(layout, p);
             matrix::show(p, w, &[], Form::Matrix);
             paper::end_line();
         }
         View::Example => {
-            paper::line(b"Document 003's example, planned; identifiers in hexadecimal");
+            paper::line(b"Document 003's example, planned");
             matrix::show(p, w, &[], Form::Matrix);
             paper::end_line();
         }
@@ -107,10 +98,10 @@ fn show(view: View, file: &[u8], w: &[u32]) {
 }
 
 // Shows a proposal that is accepted and where the bus time then goes, or says why it is refused.
-fn show_proposal(view: View, file: &[u8], w: &[u32]) {
+fn show_proposal(view: View, file: &[u8], text: &[u8], w: &[u32], plan: &[u8]) {
     let got = judge::judge(file, w);
     match got {
-        Judged::Refused(q) => reasons::of_file(q, file, w, Subject::Given),
+        Judged::Refused(q) => reasons::of_file(q, file, text, w, plan, Subject::Given),
         Judged::Accepted(t) => {
             show(view, file, w);
             tables::bus_time(t);
@@ -119,9 +110,17 @@ fn show_proposal(view: View, file: &[u8], w: &[u32]) {
 }
 
 // Shows what the planner wrote as a word list, which can be checked as it stands, or why it refuses a problem and placements to keep.
-fn show_planned(got: Planned, proposal: &[u32], file: &[u8], kept: &[u32], subject: Subject) {
+fn show_planned(
+    got: Planned,
+    proposal: &[u32],
+    file: &[u8],
+    text: &[u8],
+    kept: &[u32],
+    list: &[u8],
+    subject: Subject,
+) {
     match got {
-        Planned::Refused(q) => reasons::of_file(q, file, kept, subject),
+        Planned::Refused(q) => reasons::of_file(q, file, text, kept, list, subject),
         Planned::Proposal(n) => {
             let n = input::within(n, proposal);
             show(View::Proposal, file, &proposal[..n]);
@@ -130,34 +129,34 @@ fn show_planned(got: Planned, proposal: &[u32], file: &[u8], kept: &[u32], subje
 }
 
 // Shows the least acceptable proposal.
-fn plan(file: &[u8]) {
+fn plan(file: &[u8], text: &[u8]) {
     let mut proposal = [0u32; planner::PLAN_WORDS];
     let got = planner::plan(file, &mut proposal);
-    show_planned(got, &proposal, file, &[], Subject::Given);
+    show_planned(got, &proposal, file, text, &[], &[], Subject::Given);
 }
 
 // Shows the least acceptable proposal that keeps what is to be kept.
-fn replan(file: &[u8], kept: &[u32]) {
+fn replan(file: &[u8], text: &[u8], kept: &[u32], list: &[u8]) {
     let mut proposal = [0u32; rules::words::MOST_PROPOSAL];
     let got = planner::replan(file, kept, &mut proposal);
-    show_planned(got, &proposal, file, kept, Subject::Kept);
+    show_planned(got, &proposal, file, text, kept, list, Subject::Kept);
 }
 
-// The word that the exit status is taken from: whether all deadlines are met.
+// Tells the script whether all deadlines are met.
 fn say_met(misses: u32) {
     if misses == 0 {
-        paper::line(b"done");
+        paper::say(b"done\n");
     } else {
-        paper::line(b"missed");
+        paper::say(b"missed\n");
     }
 }
 
 // Shows the response times of events.
-fn show_times(events: &[u32]) {
+fn show_times(events: &[u32], text: &[u8]) {
     let mut times = [0u32; response::MOST_EVENTS];
     let got = response::responses(events, &mut times);
     match got {
-        Responded::Refused(q) => reasons::of_events(q, events),
+        Responded::Refused(q) => reasons::of_events(q, events, text),
         Responded::Done(misses) => {
             say_met(misses);
             tables::events(events);
@@ -171,14 +170,16 @@ fn show_times(events: &[u32]) {
 
 // A command on a problem.
 fn on_problem(command: Command) {
+    let mut text = io::large_buffer();
     let mut bytes = io::large_buffer();
-    let got = input::problem(2, &mut bytes, Subject::Given);
+    let got = input::problem(Subject::Given, &mut text, &mut bytes);
     if !got.is_good {
         return;
     }
     let n = got.count;
+    let m = got.text;
     match command {
-        Command::Plan => plan(&bytes[..n]),
+        Command::Plan => plan(&bytes[..n], &text[..m]),
         Command::Words => show(View::Words, &bytes[..n], &[]),
         _ => show(View::Problem, &bytes[..n], &[]),
     }
@@ -192,27 +193,48 @@ fn use_of(command: Command) -> Use {
     }
 }
 
-// A command on a problem and a proposal, or placements to keep; the number is the node of the lists, or the span of a log.
+// Does what a command asks for with a proposal; the number is the node of the lists, or the span of a log.
+fn with_proposal(command: Command, file: &[u8], text: &[u8], w: &[u32], plan: &[u8], number: u32) {
+    if mark::is_other(file, plan, Subject::Given) {
+        return;
+    }
+    match command {
+        Command::Check => show_proposal(View::Verdict, file, text, w, plan),
+        Command::Lists => listing::show(file, text, w, plan, basics::wide(number)),
+        Command::Hold => holding::hold_file(file, text, w, plan, number),
+        Command::Due => holding::show_due(file, text, w, plan, number),
+        _ => show_proposal(View::Matrix, file, text, w, plan),
+    }
+}
+
+// A command on a problem and a proposal, or placements to keep, and a number.
 fn on_proposal(command: Command, number: u32) {
+    let mut text = io::large_buffer();
     let mut bytes = io::large_buffer();
-    let got = input::problem(2, &mut bytes, Subject::Given);
+    let got = input::problem(Subject::Given, &mut text, &mut bytes);
     if !got.is_good {
         return;
     }
+    let mut plan = io::large_buffer();
     let mut words = [0u32; input::LIST_WORDS];
-    let told = input::words(3, &mut words, use_of(command));
+    let told = input::words(3, &mut plan, &mut words, use_of(command));
     if !told.is_good {
         return;
     }
     let n = got.count;
+    let m = got.text;
     let k = told.count;
+    let l = told.text;
     match command {
-        Command::Check => show_proposal(View::Verdict, &bytes[..n], &words[..k]),
-        Command::Replan => replan(&bytes[..n], &words[..k]),
-        Command::Lists => listing::show(b"done", &bytes[..n], &words[..k], basics::wide(number)),
-        Command::Hold => holding::hold_file(&bytes[..n], &words[..k], number),
-        Command::Due => holding::show_due(&bytes[..n], &words[..k], number),
-        _ => show_proposal(View::Matrix, &bytes[..n], &words[..k]),
+        Command::Replan => replan(&bytes[..n], &text[..m], &words[..k], &plan[..l]),
+        _ => with_proposal(
+            command,
+            &bytes[..n],
+            &text[..m],
+            &words[..k],
+            &plan[..l],
+            number,
+        ),
     }
 }
 
@@ -224,7 +246,8 @@ fn on_lists(arguments: usize) {
     }
     let node = input::number(4);
     if 15 < node {
-        paper::say(b"ttplan: NODE is a number from 0 to 15\n");
+        origin::named(b"ttplan: NODE is a number from 0 to 15, and not ", 4);
+        paper::say(b"\n");
         return;
     }
     on_proposal(Command::Lists, node as u32);
@@ -234,7 +257,11 @@ fn on_lists(arguments: usize) {
 fn on_span(command: Command, i: usize) {
     let span = input::number(i);
     if wordlist::NO_NUMBER <= span {
-        paper::say(b"ttplan: SPAN is a number of matrix cycles from 1 to 100\n");
+        origin::named(
+            b"ttplan: SPAN is a number of matrix cycles from 1 to 100, and not ",
+            i,
+        );
+        paper::say(b"\n");
         return;
     }
     on_proposal(command, span as u32);
@@ -242,30 +269,34 @@ fn on_span(command: Command, i: usize) {
 
 // The response times of events.
 fn on_events() {
+    let mut text = io::large_buffer();
     let mut words = [0u32; input::LIST_WORDS];
-    let got = input::words(2, &mut words, Use::List);
+    let got = input::words(2, &mut text, &mut words, Use::List);
     if !got.is_good {
         return;
     }
     let n = got.count;
-    show_times(&words[..n]);
+    let m = got.text;
+    show_times(&words[..n], &text[..m]);
 }
 
-// The file of a problem's words: a line that says done, and behind it the bytes.
+// The file of a problem's words.
 fn on_words() {
+    let mut text = io::large_buffer();
     let mut words = [0u32; input::LIST_WORDS];
-    let got = input::words(2, &mut words, Use::List);
+    let got = input::words(2, &mut text, &mut words, Use::List);
     if !got.is_good {
         return;
     }
     let n = got.count;
+    let m = got.text;
     let mut bytes = [0u8; problem::MOST_BYTES];
-    let told = input::written(&words[..n], &mut bytes, Subject::Given);
+    let told = input::written(&words[..n], &text[..m], &mut bytes, Subject::Given);
     if !told.is_good {
         return;
     }
     let k = told.count;
-    paper::line(b"done");
+    paper::say(b"done\n");
     paper::text(&bytes[..k]);
 }
 
@@ -274,7 +305,7 @@ fn keep(bytes: &[u8], layout: Layout) {
     if !output::keep(3, bytes) {
         return;
     }
-    paper::line(b"done");
+    paper::say(b"done\n");
     paper::text_number(b"version ", version_of(layout));
     paper::text_count(b", ", bytes.len());
     paper::line(b" bytes");
@@ -290,16 +321,23 @@ fn moved(file: &[u8], layout: Layout, out: &mut [u8]) -> Moved {
 
 // A problem moved to a version.
 fn on_move(layout: Layout) {
+    let mut text = io::large_buffer();
     let mut bytes = io::large_buffer();
-    let got = input::problem(2, &mut bytes, Subject::Given);
+    let got = input::problem(Subject::Given, &mut text, &mut bytes);
     if !got.is_good {
+        return;
+    }
+    if (0 < got.text) & output::is_same_name(2, 3) {
+        paper::say(
+            b"ttplan: OUT is the word list that is read; a problem file needs a name of its own\n",
+        );
         return;
     }
     let n = got.count;
     let mut out = [0u8; problem::MOST_BYTES];
     let told = moved(&bytes[..n], layout, &mut out);
     match told {
-        Moved::Refused(q) => reasons::of_file(q, &bytes[..n], &[], Subject::Given),
+        Moved::Refused(q) => reasons::of_file(q, &bytes[..n], &[], &[], &[], Subject::Given),
         Moved::File(k) => {
             let k = input::within_bytes(k, &out);
             keep(&out[..k], layout);
@@ -313,7 +351,7 @@ fn on_example() {
     let got = example::words(&mut words);
     let n = got.count;
     let mut bytes = [0u8; problem::MOST_BYTES];
-    let told = input::written(&words[..n], &mut bytes, Subject::Given);
+    let told = input::written(&words[..n], &[], &mut bytes, Subject::Given);
     if !told.is_good {
         return;
     }
@@ -326,11 +364,12 @@ fn show_example(file: &[u8]) {
     let mut proposal = [0u32; planner::PLAN_WORDS];
     let got = planner::plan(file, &mut proposal);
     match got {
-        Planned::Refused(q) => reasons::of_file(q, file, &[], Subject::Given),
+        Planned::Refused(q) => reasons::of_file(q, file, &[], &[], &[], Subject::Given),
         Planned::Proposal(n) => {
             let n = input::within(n, &proposal);
-            show_proposal(View::Example, file, &proposal[..n]);
-            listing::show(b"", file, &proposal[..n], 0);
+            show_proposal(View::Example, file, &[], &proposal[..n], &[]);
+            paper::end_line();
+            listing::show(file, &[], &proposal[..n], &[], 0);
         }
     }
 }
@@ -353,9 +392,6 @@ fn plan_command_named(name: &[u8]) -> Command {
     }
     if wordlist::is_same(name, b"extend") {
         return Command::Extend;
-    }
-    if wordlist::is_same(name, b"losses") {
-        return Command::Losses;
     }
     if wordlist::is_same(name, b"lists") {
         return Command::Lists;
@@ -386,9 +422,6 @@ fn command_named(name: &[u8]) -> Command {
     if wordlist::is_same(name, b"back") {
         return Command::Back;
     }
-    if wordlist::is_same(name, b"help") {
-        return Command::Help;
-    }
     plan_command_named(name)
 }
 
@@ -400,69 +433,9 @@ fn takes(command: Command, arguments: usize) -> bool {
         Command::Lists => (arguments == 4) | (arguments == 5),
         Command::Hold => arguments == 6,
         Command::Extend | Command::Due => arguments == 5,
-        Command::Help => arguments == 2,
-        Command::Losses | Command::Unknown => false,
+        Command::Unknown => false,
         _ => arguments == 3,
     }
-}
-
-// How a command is used, on standard error.
-fn say_usage(command: Command) {
-    match command {
-        Command::Show => paper::say(b"ttplan: use: ttplan show FILE [PROPOSAL]\n"),
-        Command::Check => paper::say(b"ttplan: use: ttplan check FILE PROPOSAL\n"),
-        Command::Plan => paper::say(b"ttplan: use: ttplan plan FILE\n"),
-        Command::Replan => paper::say(b"ttplan: use: ttplan replan FILE KEPT\n"),
-        Command::Extend => paper::say(b"ttplan: use: ttplan extend NEW OLD OLDPLAN\n"),
-        Command::Losses => paper::say(
-            b"ttplan: losses is no command of its own any more: ttplan check FILE PROPOSAL shows them\n",
-        ),
-        Command::Lists => paper::say(b"ttplan: use: ttplan lists FILE PROPOSAL [NODE]\n"),
-        Command::Hold => paper::say(b"ttplan: use: ttplan hold FILE PROPOSAL LOG SPAN\n"),
-        Command::Due => paper::say(b"ttplan: use: ttplan due FILE PROPOSAL SPAN\n"),
-        Command::Times => paper::say(b"ttplan: use: ttplan times EVENTS\n"),
-        Command::Words => paper::say(b"ttplan: use: ttplan words FILE\n"),
-        Command::File => paper::say(b"ttplan: use: ttplan file WORDS\n"),
-        Command::Up => paper::say(b"ttplan: use: ttplan up FILE OUT\n"),
-        Command::Back => paper::say(b"ttplan: use: ttplan back FILE OUT\n"),
-        Command::Help => paper::say(b"ttplan: use: ttplan help\n"),
-        Command::Unknown => paper::say(
-            b"ttplan: no such command; they are show, check, plan, replan, extend, lists, hold, due, times, words, file, up, back and help\n",
-        ),
-    }
-}
-
-// What the program does, in a few lines.
-fn help() {
-    paper::line(b"done");
-    paper::line(b"ttplan                              plan document 003's example");
-    paper::line(
-        b"ttplan show FILE [PROPOSAL]         the problem; with a proposal its matrix and losses",
-    );
-    paper::line(b"ttplan check FILE PROPOSAL          accepted and its losses, or refused and why");
-    paper::line(b"ttplan plan FILE                    the least acceptable proposal");
-    paper::line(
-        b"ttplan replan FILE KEPT             the least one that keeps the placements in KEPT",
-    );
-    paper::line(
-        b"ttplan extend NEW OLD OLDPLAN       NEW planned so that OLD's messages keep their places",
-    );
-    paper::line(b"ttplan lists FILE PROPOSAL [NODE]   the trigger lists of all nodes or one");
-    paper::line(b"ttplan hold FILE PROPOSAL LOG SPAN  clean, or where a log of the bus differs");
-    paper::line(
-        b"ttplan due FILE PROPOSAL SPAN       the log that is due in so many matrix cycles",
-    );
-    paper::line(b"ttplan times EVENTS                 response times on a plain CAN bus");
-    paper::line(b"ttplan words FILE                   a problem as a word list");
-    paper::line(b"ttplan file WORDS                   a word list as a problem file");
-    paper::line(b"ttplan up FILE OUT                  the file of version 2, kept as OUT");
-    paper::line(b"ttplan back FILE OUT                the file of version 1, kept as OUT");
-    paper::line(
-        b"FILE, NEW and OLD are problem files (.tsm) or word lists, of either version; the others are",
-    );
-    paper::line(
-        b"word lists: decimal numbers between white space, # begins a comment, - in KEPT is none.",
-    );
 }
 
 // Does what the arguments ask for.
@@ -476,7 +449,7 @@ pub fn run() {
     let n = os::arg(1, &mut name);
     let command = command_named(&name[..n]);
     if !takes(command, arguments) {
-        say_usage(command);
+        paper::say(b"use\n");
         return;
     }
     obey(command, arguments);
@@ -485,7 +458,6 @@ pub fn run() {
 // Does what a command asks for, whose arguments have been counted.
 fn obey(command: Command, arguments: usize) {
     match command {
-        Command::Help => help(),
         Command::Times => on_events(),
         Command::File => on_words(),
         Command::Up => on_move(Layout::Two),

@@ -4,8 +4,9 @@ use super::listing;
 use basics::FILL;
 use files::input;
 use files::input::Use;
+use files::mark;
+use origin::Subject;
 use planner::answer::Planned;
-use reasons::Subject;
 use rules::words;
 use views::changes;
 use views::matrix;
@@ -32,7 +33,7 @@ fn show_messages(p: &[u32], w: &[u32], kept: &[u32], old: &[u32], old_plan: &[u3
 // Shows which nodes must be loaded anew, and which not.
 fn show_nodes(file: &[u8], w: &[u32], old_lists: &[u32; triggers::MOST_WORDS]) {
     let mut lists = [0u32; triggers::MOST_WORDS];
-    let is_done = listing::fill(file, w, &mut lists, Subject::Given);
+    let is_done = listing::fill(file, &[], w, &[], &mut lists, Subject::Given);
     if is_done {
         changes::nodes(
             b"# nodes with a changed trigger list:",
@@ -54,6 +55,7 @@ fn show_nodes(file: &[u8], w: &[u32], old_lists: &[u32; triggers::MOST_WORDS]) {
 // Plans a new problem with what an old plan has for its messages, and shows the plan and what it changes.
 fn plan(
     file: &[u8],
+    text: &[u8],
     p: &[u32],
     old: &[u32],
     old_plan: &[u32],
@@ -66,11 +68,18 @@ fn plan(
     let mut proposal = [0u32; words::MOST_PROPOSAL];
     let got = planner::replan(file, &list[..count], &mut proposal);
     match got {
-        Planned::Refused(q) => reasons::of_file(q, file, &list[..count], Subject::Kept),
+        Planned::Refused(q) => reasons::of_file(
+            q,
+            file,
+            text,
+            &list[..count],
+            &[],
+            Subject::Carried,
+        ),
         Planned::Proposal(n) => {
             let n = input::within(n, &proposal);
-            paper::line(b"done");
-            tables::proposal_words(p, &proposal[..n]);
+            paper::say(b"done\n");
+            tables::proposal_words(p, &proposal[..n], mark::of(p));
             show_messages(p, &proposal[..n], &list[..count], old, old_plan);
             show_nodes(file, &proposal[..n], old_lists);
         }
@@ -81,16 +90,25 @@ fn plan(
 fn plan_file(old: &[u32], old_plan: &[u32], old_lists: &[u32; triggers::MOST_WORDS])
     requires { ⌜ WellFormed (now old) ⌝ }
 {
+    let mut text = io::large_buffer();
     let mut bytes = io::large_buffer();
-    let got = input::problem(2, &mut bytes, Subject::Given);
+    let got = input::problem(Subject::Given, &mut text, &mut bytes);
     if !got.is_good {
         return;
     }
     let n = got.count;
+    let m = got.text;
     let mut words = [FILL; words::MOST_WORDS];
     let k = input::decoded(&bytes[..n], &mut words);
     if 0 < k {
-        plan(&bytes[..n], &words[..k], old, old_plan, old_lists);
+        plan(
+            &bytes[..n],
+            &text[..m],
+            &words[..k],
+            old,
+            old_plan,
+            old_lists,
+        );
     }
 }
 
@@ -105,23 +123,35 @@ fn extend_accepted(file: &[u8], w: &[u32], lists: &[u32; triggers::MOST_WORDS]) 
     }
 }
 
-// Reads the old problem and its plan, and goes on if they are accepted.
+// Goes on with an old problem and its plan, if the plan is this problem's and accepted.
+fn extend_read(file: &[u8], text: &[u8], w: &[u32], plan: &[u8]) {
+    if mark::is_other(file, plan, Subject::Old) {
+        return;
+    }
+    let mut lists = [0u32; triggers::MOST_WORDS];
+    let is_accepted = listing::fill(file, text, w, plan, &mut lists, Subject::Old);
+    if is_accepted {
+        extend_accepted(file, w, &lists);
+    }
+}
+
+// Reads the old problem and its plan, and goes on.
 pub fn extend() {
+    let mut text = io::large_buffer();
     let mut bytes = io::large_buffer();
-    let got = input::problem(3, &mut bytes, Subject::Old);
+    let got = input::problem(Subject::Old, &mut text, &mut bytes);
     if !got.is_good {
         return;
     }
+    let mut plan = io::large_buffer();
     let mut words = [0u32; input::LIST_WORDS];
-    let told = input::words(4, &mut words, Use::List);
+    let told = input::words(4, &mut plan, &mut words, Use::List);
     if !told.is_good {
         return;
     }
     let n = got.count;
+    let m = got.text;
     let k = told.count;
-    let mut lists = [0u32; triggers::MOST_WORDS];
-    let is_accepted = listing::fill(&bytes[..n], &words[..k], &mut lists, Subject::Old);
-    if is_accepted {
-        extend_accepted(&bytes[..n], &words[..k], &lists);
-    }
+    let l = told.text;
+    extend_read(&bytes[..n], &text[..m], &words[..k], &plan[..l]);
 }

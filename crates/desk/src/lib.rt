@@ -2,5 +2,4 @@
 pub mod commands;
 mod example;
 mod extending;
-mod holding;
 mod listing;

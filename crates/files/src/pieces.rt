@@ -3,6 +3,7 @@
 use super::input;
 use super::input::Taken;
 use super::input::Use;
+use wordlist::lines;
 ghost use mathlib.Core.Path.{_≡_};
 ghost use Prim.Native.Nat.{_<_, _≤_};
 ghost use lib.ListN.{length};
@@ -89,7 +90,7 @@ fn take_lines(name: &[u8], bytes: &mut [u8], words: &mut [u32], at: Place) -> Pl
     let lines = at.lines;
     let end = lines_end(bytes, held);
     let got = input::text_words(name, lines, &bytes[..end], &mut words[count..], Use::Log);
-    let ended = wordlist::line_of(&bytes[..end]) - 1;
+    let ended = lines::line_of(&bytes[..end]) - 1;
     move_front(bytes, end, held);
     Place {
         is_good: got.is_good,
@@ -128,8 +129,7 @@ fn take_some(name: &[u8], bytes: &mut [u8], words: &mut [u32], at: Place) -> Pla
     }
     if next.held == bytes.len() {
         input::blame(name);
-        paper::say(b", line ");
-        paper::say_count(next.lines + 1);
+        paper::say_count(b", line ", next.lines + 1);
         paper::say(b": a line of a log has at most 65,535 bytes\n");
         return over(false, 0);
     }
@@ -195,7 +195,7 @@ pub fn words(i: usize, words: &mut [u32]) -> Taken
 {
     let mut name = io::buffer();
     let n = os::arg(i, &mut name);
-    let fd = os::open_read(&name[..n]);
+    let fd = input::open(&name[..n]);
     if fd < 0 {
         input::fail(&name[..n]);
         return Taken {

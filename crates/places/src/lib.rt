@@ -40,7 +40,13 @@ fn may_stand(p: &[u32], j: usize, step: usize, c: usize, r: usize) -> bool
 }
 
 // The columns in which message j may stand with base row r.
-fn allowed_in(p: &[u32], taken: &[u32; words::MOST_ROWS], j: usize, step: usize, r: usize) -> u32
+pub fn allowed_in(
+    p: &[u32],
+    taken: &[u32; words::MOST_ROWS],
+    j: usize,
+    step: usize,
+    r: usize,
+) -> u32
     requires { ⌜ Member (now p) j × (step ≡ repeat (now p) j) × (r < step) ⌝ }
     ensures { λ x. ⌜ Allowed (now (p .entry)) (now (taken .entry)) j r x ⌝ }
 {

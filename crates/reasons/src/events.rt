@@ -1,11 +1,11 @@
 // What is wrong with events.
-use super::fields;
-use super::fields::field;
-use super::found;
-use super::name;
 use basics::is_outside;
 use basics::smaller;
 use basics::wide;
+use broken::fields;
+use broken::fields::field;
+use broken::fields::range;
+use broken::name;
 use response::DATA;
 use response::DEADLINE;
 use response::EVENT_WORDS;
@@ -15,7 +15,8 @@ use response::LONGEST_PERIOD;
 use response::MOST_EVENTS;
 use response::PERIOD;
 use rules::words::frame_bits;
-ghost use Prim.Native.Nat.{_≤_};
+use wordlist::lines::Shape;
+ghost use Prim.Native.Nat.{_<_, _≤_};
 ghost use Rattle.reasons.specs.Shares.{mostShares, mostLoad};
 
 // All of the bus time, in shares so small that those of 64 events, each rounded up, are hardly more than the load, and how many of them are a hundredth of a per cent.
@@ -23,50 +24,87 @@ const WHOLE: usize = 10000000000;
 
 const HUNDREDTH: usize = WHOLE / paper::ALL;
 
-// The count of the words of events.
-pub fn word_count(events: &[u32]) {
-    paper::text(b"events have five words each, and there are at most 64, found ");
-    paper::things(events.len(), b" word");
-}
-
-// The first rule that an event's period, jitter, deadline or identifier breaks, if the identifier is in range.
-fn timing(events: &[u32], j: u32) {
-    let period = field(events, EVENT_WORDS, j, PERIOD);
-    let jitter = field(events, EVENT_WORDS, j, JITTER);
-    let deadline = field(events, EVENT_WORDS, j, DEADLINE);
-    if is_outside(period, 1, LONGEST_PERIOD) {
-        found(b"the period must be 1 to 4194304", period);
-    } else if period <= jitter {
-        fields::by_period(b"the jitter must be below the period", jitter, period);
-    } else if is_outside(deadline, 1, period) {
-        fields::deadline(deadline, period);
-    } else {
-        paper::text_number(
-            b"it has the identifier of event ",
-            fields::first_like(events, EVENT_WORDS, j),
+// The count of the words of events, which a text has.
+pub fn word_count(events: &[u32], text: &[u8]) {
+    paper::say_things(b": ", events.len(), b" word");
+    paper::say(b"; each event has five, and there are at most 64 events");
+    if events.len() <= EVENT_WORDS * MOST_EVENTS {
+        broken::wrong_line(
+            text,
+            Shape {
+                records: (events.len() + EVENT_WORDS / 2) / EVENT_WORDS,
+                first: EVENT_WORDS,
+                few: 0,
+                short: EVENT_WORDS,
+                other: EVENT_WORDS,
+            },
         );
     }
 }
 
-// An event by its name, as its rule is said of it.
-fn begin(events: &[u32], j: u32) {
+// Which word of an event breaks its first rule.
+fn broken(events: &[u32], j: u32) -> usize
+    ensures { λ r. ⌜ r < 5 ⌝ }
+{
+    let period = field(events, EVENT_WORDS, j, PERIOD);
+    if fields::MOST_IDENTIFIER < field(events, EVENT_WORDS, j, IDENTIFIER) {
+        IDENTIFIER
+    } else if fields::MOST_DATA < field(events, EVENT_WORDS, j, DATA) {
+        DATA
+    } else if is_outside(period, 1, LONGEST_PERIOD) {
+        PERIOD
+    } else if period <= field(events, EVENT_WORDS, j, JITTER) {
+        JITTER
+    } else if is_outside(field(events, EVENT_WORDS, j, DEADLINE), 1, period) {
+        DEADLINE
+    } else {
+        IDENTIFIER
+    }
+}
+
+// The identifier of an event: out of its range, or another event's.
+fn identifier(events: &[u32], j: u32, id: u32) {
+    if fields::MOST_IDENTIFIER < id {
+        fields::identifier(b"identifier ", id);
+    } else {
+        fields::taken(id, b"; event ", fields::first_like(events, EVENT_WORDS, j));
+    }
+}
+
+// What is said of a word of an event that breaks a rule.
+fn rule(events: &[u32], j: u32, at: usize)
+    requires { ⌜ at < 5 ⌝ }
+{
+    let n = field(events, EVENT_WORDS, j, at);
+    let period = field(events, EVENT_WORDS, j, PERIOD);
+    if at == IDENTIFIER {
+        identifier(events, j, n);
+    } else if at == DATA {
+        range(b"data bytes", n, 0, fields::MOST_DATA);
+    } else if at == PERIOD {
+        range(b"period", n, 1, LONGEST_PERIOD);
+    } else if at == JITTER {
+        fields::below(b"jitter", n, period);
+    } else {
+        fields::deadline(n, period);
+    }
+}
+
+// An event by its name, and the line that has a word of it.
+fn begin(events: &[u32], text: &[u8], j: u32, at: usize)
+    requires { ⌜ at < 5 ⌝ }
+{
     let id = field(events, EVENT_WORDS, j, IDENTIFIER);
-    name(b"event ", wide(j), wide(id));
-    paper::text(b": ");
+    origin::line(text, EVENT_WORDS * wide(j) + at);
+    name(b", event ", wide(j), wide(id));
+    paper::say(b": ");
 }
 
 // An event, and the first of its rules that it breaks.
-pub fn event(events: &[u32], j: u32) {
-    let id = field(events, EVENT_WORDS, j, IDENTIFIER);
-    let data = field(events, EVENT_WORDS, j, DATA);
-    begin(events, j);
-    if fields::MOST_IDENTIFIER < id {
-        fields::identifier(id);
-    } else if fields::MOST_DATA < data {
-        fields::data_bytes(data);
-    } else {
-        timing(events, j);
-    }
+pub fn event(events: &[u32], text: &[u8], j: u32) {
+    let at = broken(events, j);
+    begin(events, text, j, at);
+    rule(events, j, at);
 }
 
 // How many shares of the bus time event j asks for, rounded up; none if it has no period or no frame.
@@ -110,10 +148,11 @@ fn shares_with(events: &[u32], j: u32) -> usize
 }
 
 // An event that has no busy period. Its shares are rounded up, and so is their sum, so that the load is at most what is shown.
-pub fn endless(events: &[u32], j: u32) {
-    begin(events, j);
-    paper::text(
-        b"with it and the events of higher priority the bus must come to rest within 16777216 bit times, found a load of at most ",
+pub fn endless(events: &[u32], text: &[u8], j: u32) {
+    begin(events, text, j, IDENTIFIER);
+    paper::say_per_cent(
+        b"with it and the events of higher priority the load is ",
+        (shares_with(events, j) + (HUNDREDTH - 1)) / HUNDREDTH,
     );
-    paper::per_cent((shares_with(events, j) + (HUNDREDTH - 1)) / HUNDREDTH);
+    paper::say(b", rounded up; the bus must come to rest within 16777216 bit times");
 }

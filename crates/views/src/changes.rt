@@ -23,8 +23,7 @@ fn message(fate: &[u8], p: &[u32], w: &[u32], j: usize)
     let column = words::column_of(w, j);
     let row = words::row_of(w, j);
     paper::text(fate);
-    paper::text(b" 0x");
-    paper::hex(words::identifier_of(p, j));
+    paper::text_hex(b" ", words::identifier_of(p, j));
     paper::text_count(b" in column ", column);
     paper::text_count(b", base row ", row);
     paper::end_line();

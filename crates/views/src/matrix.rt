@@ -6,6 +6,9 @@ ghost use Prim.Native.Nat.{_<_, _≤_};
 ghost use Rattle.rules.specs.Problem.{WellFormed, columns};
 ghost use Rattle.rules.specs.Parts.{Member};
 
+// How many characters a column of the table has: an identifier, a mark and a space.
+const WIDTH: usize = 7;
+
 // What is shown, and where: the windows alone, the matrix, or the matrix as comments of a word list.
 pub enum Form {
     Windows,
@@ -72,12 +75,12 @@ fn show_cell(p: &[u32], w: &[u32], kept: &[u32], r: usize, c: usize)
 {
     let cell = sent_in(p, w, kept, r, c);
     match cell {
-        Cell::Sent(identifier) => paper::right_hex(identifier, 6),
+        Cell::Sent(identifier) => paper::right_hex(identifier, WIDTH),
         Cell::New(identifier) => {
-            paper::right_hex(identifier, 5);
+            paper::right_hex(identifier, WIDTH - 1);
             paper::text(b"*");
         }
-        Cell::Empty => paper::right_text(b".", 6),
+        Cell::Empty => paper::right_text(b".", WIDTH),
     }
 }
 
@@ -109,8 +112,8 @@ fn show_rows(p: &[u32], w: &[u32], kept: &[u32], form: Form, from: usize, to: us
     let mut r: usize = 0;
     while r < rows {
         begin(form, b"cycle ");
-        paper::right_count(r, 3);
-        paper::right_hex(words::ref_id_of(p), 6);
+        paper::right_count(r, 2);
+        paper::right_hex(words::ref_id_of(p), WIDTH);
         show_cells(p, w, kept, r, from, to);
         paper::end_line();
         r += 1;
@@ -122,7 +125,7 @@ fn show_numbers(form: Form, from: usize, to: usize) {
     begin(form, b"window      ref");
     let mut c = from;
     while c < to {
-        paper::right_count(c, 6);
+        paper::right_count(c, WIDTH);
         c += 1;
     }
     paper::end_line();
@@ -135,7 +138,7 @@ fn show_starts(p: &[u32], form: Form, from: usize, to: usize)
     begin(form, b"start         0");
     let mut c = from;
     while c < to {
-        paper::right_count(words::start_of(p, c), 6);
+        paper::right_count(words::start_of(p, c), WIDTH);
         c += 1;
     }
     paper::end_line();
@@ -145,11 +148,11 @@ fn show_starts(p: &[u32], form: Form, from: usize, to: usize)
 fn show_widths(p: &[u32], form: Form, from: usize, to: usize)
     requires { ⌜ WellFormed (now p) × (to ≤ columns (now p)) ⌝ }
 {
-    begin(form, b"width    ");
-    paper::right_count(words::ref_len_of(p), 6);
+    begin(form, b"width   ");
+    paper::right_count(words::ref_len_of(p), WIDTH);
     let mut c = from;
     while c < to {
-        paper::right_count(words::width_of(p, c), 6);
+        paper::right_count(words::width_of(p, c), WIDTH);
         c += 1;
     }
     paper::end_line();
@@ -169,18 +172,18 @@ fn show_block(p: &[u32], w: &[u32], kept: &[u32], form: Form, from: usize, to: u
     }
 }
 
-// How many windows stand side by side: blocks of like size, with at most 10 windows so that a line fits a terminal.
+// How many windows stand side by side: blocks of like size, with at most 9 windows so that a line fits a terminal.
 fn block_size(columns: usize) -> usize
     requires { ⌜ (1 ≤ columns) × (columns ≤ 32) ⌝ }
-    ensures { λ r. ⌜ (1 ≤ r) × (r ≤ 10) ⌝ }
+    ensures { λ r. ⌜ (1 ≤ r) × (r ≤ 9) ⌝ }
 {
-    if columns <= 10 {
+    if columns <= 9 {
         return columns;
     }
-    if columns <= 20 {
+    if columns <= 18 {
         return (columns + 1) / 2;
     }
-    if columns <= 30 {
+    if columns <= 27 {
         return (columns + 2) / 3;
     }
     8

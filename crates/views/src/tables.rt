@@ -57,7 +57,7 @@ fn message(p: &[u32], j: usize)
     requires { ⌜ Member (now p) j ⌝ }
 {
     paper::right_count(j, 7);
-    paper::right_hex(words::identifier_of(p, j), 5);
+    paper::right_hex(words::identifier_of(p, j), 7);
     paper::right_count(words::sender_of(p, j), 6);
     paper::right_count(words::size_of(p, j), 6);
     paper::right_count(words::period_of(p, j), 9);
@@ -73,7 +73,7 @@ pub fn messages(p: &[u32])
     requires { ⌜ WellFormed (now p) ⌝ }
 {
     let count = words::messages_of(p);
-    paper::line(b"\nmessage   id  from bytes   period   offset deadline   to nodes");
+    paper::line(b"\nmessage     id  from bytes   period   offset deadline   to nodes");
     let mut j: usize = 0;
     while j < count {
         message(p, j);
@@ -83,13 +83,13 @@ pub fn messages(p: &[u32])
 
 // ---- words that can be read back
 
-// A line for each so many words, of which so many are shown.
-fn lines(w: &[u32], size: usize, shown: usize)
+// A line for each so many words, of which so many are shown, one of them as an identifier.
+fn lines(w: &[u32], size: usize, shown: usize, identifier: usize)
     requires { ⌜ (1 ≤ size) × (size ≤ 7) × (shown ≤ size) ⌝ }
 {
     let mut at: usize = 0;
     while at + size <= w.len() {
-        paper::words(&w[at..at + shown]);
+        paper::record(&w[at..at + shown], identifier);
         paper::end_line();
         at += size;
     }
@@ -114,11 +114,22 @@ pub fn problem_words(p: &[u32], said: usize)
         &p[..words::HEADER_WORDS],
         words::HEADER_WORDS,
         words::HEADER_WORDS,
+        words::REF_ID,
     );
     column_heading(said);
-    lines(&p[words::HEADER_WORDS..middle], words::COLUMN_WORDS, said);
+    lines(
+        &p[words::HEADER_WORDS..middle],
+        words::COLUMN_WORDS,
+        said,
+        said,
+    );
     paper::line(b"# messages: identifier, sender, bytes, receivers, period, offset, deadline");
-    lines(&p[middle..], words::MESSAGE_WORDS, words::MESSAGE_WORDS);
+    lines(
+        &p[middle..],
+        words::MESSAGE_WORDS,
+        words::MESSAGE_WORDS,
+        words::IDENTIFIER,
+    );
 }
 
 // The column and the base row of one message, and its name as a comment.
@@ -129,21 +140,19 @@ fn placement(p: &[u32], w: &[u32], j: usize)
         return;
     }
     paper::count(words::column_of(w, j));
-    paper::text(b" ");
-    paper::count(words::row_of(w, j));
-    paper::text(b" # message ");
-    paper::count(j);
-    paper::text(b", identifier ");
-    paper::hex(words::identifier_of(p, j));
+    paper::text_count(b" ", words::row_of(w, j));
+    paper::text_count(b" # message ", j);
+    paper::text_hex(b", identifier ", words::identifier_of(p, j));
     paper::end_line();
 }
 
-// A proposal as a word list, a message a line.
-pub fn proposal_words(p: &[u32], w: &[u32])
+// A proposal as a word list, a message a line, with the mark of its problem.
+pub fn proposal_words(p: &[u32], w: &[u32], mark: u32)
     requires { ⌜ WellFormed (now p) ⌝ }
 {
     let messages = words::messages_of(p);
-    paper::line(b"# column and base row of each message");
+    paper::text_mark(b"# problem ", mark);
+    paper::line(b"\n# column and base row of each message");
     let mut j: usize = 0;
     while j < messages {
         placement(p, w, j);
@@ -191,7 +200,7 @@ fn event(e: &[u32], worst: Worst)
     requires { ⌜ eventWords ≤ length (now e) ⌝ }
 {
     let deadline = e[response::DEADLINE];
-    paper::right_hex(wide(e[response::IDENTIFIER]), 4);
+    paper::right_hex(wide(e[response::IDENTIFIER]), 6);
     paper::right(e[response::DATA], 6);
     paper::right(e[response::PERIOD], 9);
     paper::right(e[response::JITTER], 9);
@@ -210,7 +219,7 @@ pub fn events(e: &[u32])
     requires { ⌜ Ready (now e) mostEvents ⌝ }
 {
     paper::line(b"The longest response, which instance has it (from 0), and the busy period");
-    paper::line(b"  id bytes   period   jitter deadline  response instance      busy");
+    paper::line(b"    id bytes   period   jitter deadline  response instance      busy");
     let mut i: usize = 0;
     while i < e.len() / EVENT_WORDS {
         let from = EVENT_WORDS * i;
@@ -236,7 +245,7 @@ fn entry(e: &[u32])
     } else {
         paper::text(b"  receives  ");
     }
-    paper::hex(wide(e[0] % KIND_WEIGHT));
+    paper::right_hex(wide(e[0] % KIND_WEIGHT), 0);
     paper::end_line();
 }
 

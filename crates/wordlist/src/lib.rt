@@ -1,7 +1,12 @@
-// Word lists: decimal numbers between white space, where # begins a comment that the end of the line ends.
-ghost use Prim.Native.Nat.{_+_, _<_, _≤_};
+// Word lists: numbers between white space, decimal or with 0x in front hexadecimal, where # begins a comment that the end of the line ends.
+pub mod hints;
+pub mod lines;
+
+ghost use Prim.Native.Nat.{_<_, _≤_};
+ghost use mathlib.Core.Path.{_≡_};
+ghost use mathlib.Core.Bool.{true};
 ghost use lib.ListN.{length};
-ghost use Rattle.wordlist.specs.Text.{Digit, Numeral, Next, Ended, Taken};
+ghost use Rattle.wordlist.specs.Text.{digit as digitOf, Prefixed, InBase, Numeral, Next, Ended, Taken};
 
 // More than any word: what stands for a text that is no number.
 pub const NO_NUMBER: u64 = 4294967296;
@@ -12,42 +17,95 @@ pub struct Parsed {
     pub at: usize,
 }
 
-// White space: space, tab, the ends of lines and pages.
-fn is_blank(b: u8) -> bool {
-    (b == b' ') | ((b'\t' <= b) & (b <= b'\r'))
-}
+// ---- numbers
 
-// The value of a decimal digit, 10 for any other byte.
+// The value of a digit, decimal or hexadecimal, and 16 for any other byte.
 fn digit(b: u8) -> u64
-    ensures { λ r. ⌜ Digit b r ⌝ }
+    ensures { λ r. ⌜ r ≡ digitOf b ⌝ }
 {
     if b < b'0' {
-        return 10;
+        return 16;
     }
-    if b'9' < b {
-        return 10;
+    if b <= b'9' {
+        return (b - b'0') as u64;
     }
-    (b - b'0') as u64
+    if b < b'A' {
+        return 16;
+    }
+    if b <= b'F' {
+        return (b - b'A') as u64 + 10;
+    }
+    if b < b'a' {
+        return 16;
+    }
+    if b <= b'f' {
+        return (b - b'a') as u64 + 10;
+    }
+    16
 }
 
-// The number that decimal digits write, or NO_NUMBER for other bytes or a number that is too large for a word.
-pub fn number(digits: &[u8]) -> u64
-    ensures { λ r. ⌜ Numeral (now (digits .entry)) r ⌝ }
+// The number that digits of a base write, or NO_NUMBER for other bytes or a number that is too large for a word.
+fn number_in(base: u64, digits: &[u8]) -> u64
+    requires { ⌜ base ≤ 16 ⌝ }
+    ensures { λ r. ⌜ InBase base (now (digits .entry)) r ⌝ }
 {
     let mut value: u64 = 0;
     let mut i: usize = 0;
     while i < digits.len() {
         let d = digit(digits[i]);
-        if 9 < d {
+        if base <= d {
             return NO_NUMBER;
         }
-        value = value * 10 + d;
+        value = value * base + d;
         if NO_NUMBER <= value {
             return NO_NUMBER;
         }
         i += 1;
     }
     value
+}
+
+// Whether 0x stands before the rest of a word.
+fn is_prefixed(word: &[u8]) -> bool
+    ensures { λ b. ⌜ (b ≡ true → Prefixed (now (word .entry))) ⌝ }
+{
+    if word.len() < 3 {
+        return false;
+    }
+    if word[0] != b'0' {
+        return false;
+    }
+    word[1] == b'x'
+}
+
+// The number that a word writes, or NO_NUMBER.
+pub fn number(word: &[u8]) -> u64
+    ensures { λ r. ⌜ Numeral (now (word .entry)) r ⌝ }
+{
+    if is_prefixed(word) {
+        return number_in(16, &word[2..]);
+    }
+    number_in(10, word)
+}
+
+// ---- words in a text
+
+// White space: space, tab, the ends of lines and pages.
+fn is_blank(b: u8) -> bool {
+    (b == b' ') | ((b'\t' <= b) & (b <= b'\r'))
+}
+
+// Where a text begins: behind the byte order mark of UTF-8, if it has one.
+fn front(text: &[u8]) -> usize
+    ensures { λ r. ⌜ r ≤ length (now (text .entry)) ⌝ }
+{
+    if text.len() < 3 {
+        return 0;
+    }
+    if (text[0] == 0xEF) & (text[1] == 0xBB) & (text[2] == 0xBF) {
+        return 3;
+    }
+    0
 }
 
 // Where the next word begins, at a place or behind it: past white space and comments. The text's end if there is none.
@@ -69,7 +127,7 @@ fn next_word(text: &[u8], from: usize) -> usize
 }
 
 // Where a word ends that begins at a place: at white space, at a comment or at the text's end.
-fn word_end(text: &[u8], from: usize) -> usize
+pub fn word_end(text: &[u8], from: usize) -> usize
     requires { ⌜ from < length (now text) ⌝ }
     ensures { λ r. ⌜ Ended (now (text .entry)) from r ⌝ }
 {
@@ -104,7 +162,7 @@ pub fn parse_with(text: &[u8], words: &mut [u32], dash: u64) -> Parsed
     ensures { λ r. ⌜ Taken (now (text .entry)) (now (words .exit)) (r .count) (r .at) ⌝ }
 {
     let mut count: usize = 0;
-    let mut at = next_word(text, 0);
+    let mut at = next_word(text, front(text));
     while at < text.len() {
         let end = word_end(text, at);
         let value = value_of(&text[at..end], dash);
@@ -122,35 +180,6 @@ pub fn parse_with(text: &[u8], words: &mut [u32], dash: u64) -> Parsed
         count: count,
         at: at,
     }
-}
-
-// The line that a text ends in, from 1.
-pub fn line_of(text: &[u8]) -> usize
-    ensures { λ r. ⌜ (1 ≤ r) × (r ≤ length (now (text .entry)) + 1) ⌝ }
-{
-    let mut line: usize = 1;
-    let mut i: usize = 0;
-    while i < text.len() {
-        if text[i] == b'\n' {
-            line += 1;
-        }
-        i += 1;
-    }
-    line
-}
-
-// The column of that line that a text ends before, from 1.
-pub fn column_of(text: &[u8]) -> usize {
-    let mut column: usize = 1;
-    let mut i: usize = 0;
-    while i < text.len() {
-        column += 1;
-        if text[i] == b'\n' {
-            column = 1;
-        }
-        i += 1;
-    }
-    column
 }
 
 // Whether two texts are the same.

@@ -1,38 +1,19 @@
--- The bytes passed are digits, and write the value so far, which is a word.
-use Prim.Native.Nat.{_≤_, _<_, _-_}
-use native.Mathlib.Omega.{arith}
-use lib.ListN.{length}
-use Rattle.wordlist.specs.Text.{Writes}
-use Rattle.wordlist.proofs.Numbers.{writes-none, writes-more, no-numeral, numeral}
+-- A word with 0x in front has more than its two bytes.
+use mathlib.Core.Logic.{inr}
+use Rattle.wordlist.proofs.Numbers.{hexadecimal}
 use borrow.Author.Needs.{needs}
 use Rattle.wordlist.proofs.number.Statement.{statement}
 use Rattle.wordlist.proofs.number.Tie as tie
-
-abbrev Inv-loop : tie.InvT-loop
-Inv-loop digits value₀ i₀ value i = (i ≤ length digits) × (value < 4294967296) × Writes digits i value
-
-abbrev μ-loop : tie.MeasureT-loop
-μ-loop digits value₀ i₀ value i = length digits - i
-
-loop-again : tie.Need-loop-again Inv-loop μ-loop
-loop-again c =
-    let turn = c .before .before .before .before .before in
-    (search needs, search needs, writes-more (turn .loop .inv .2) (c .before .before .digit .ensures) (omega arith))
 
 pub number-spec : {M : Type 1} → statement M
 number-spec =
     tie.close
     (tie.spec
-    Inv-loop
-    μ-loop
-    (λ c. (search needs, search needs, writes-none _))
+    (λ c κs. search needs)
+    (λ c. let h = c .before .is-prefixed .ensures (c .if1 .taken) .more in search needs)
+    (λ c. let h = c .before .is-prefixed .ensures (c .if1 .taken) .more in search needs)
     (λ c. search needs)
     (λ c κs. search needs)
-    (λ c. no-numeral _)
-    (λ c. search needs)
-    (λ c. search needs)
-    (λ c. no-numeral _)
-    (λ c. search needs)
-    (λ c. search needs)
-    loop-again
-    (λ c. numeral (c .before .loop .inv .2) (c .before .loop .inv .1) (omega arith)))
+    (λ c. let came = c .before .before in hexadecimal (came .before .is-prefixed .ensures (came .if1 .taken)) (c .number-in .ensures))
+    (λ c κs. search needs)
+    (λ c. inr (c .number-in2 .ensures)))

@@ -13,12 +13,16 @@ slice-aggregate-of-problem c =
     let got = c .before .before in sym (opened-length (got .before .before .before .decode .ensures .opens _ (got .got .given .1)))
 
 of-problem-requires : tie.Need-of-problem-requires
-of-problem-requires c κs = let got = c .before .before in got .before .before .before .decode .ensures .opens _ (got .got .given .1) .formed
+of-problem-requires c κs =
+    let got = c .before .before in (got .before .before .before .decode .ensures .opens _ (got .got .given .1) .formed, search needs)
 
 pub of-file-spec : {M : Type 1} → statement M
 of-file-spec =
     tie.close
     (tie.spec
+    (λ c. search needs)
+    (λ c κs. search needs)
+    (λ c κs. search needs)
     (λ c. search needs)
     (λ c κs. search needs)
     (λ c. search needs)

@@ -7,7 +7,7 @@ meeting-requires : tie.Need-meeting-requires
 meeting-requires c κs =
     let earlier = c .before .is-given2 .ensures (c .if2 .taken) in
     let later = c .before .before .before .is-given .ensures (c .before .before .if1 .taken) in
-    ((earlier .0, later .0), (earlier .1, later .1))
+    ((earlier .0, later .0, search needs), (earlier .1, later .1))
 
 pub two-spec : {M : Type 1} → statement M
 two-spec =

@@ -6,10 +6,10 @@ use Rattle.views.proofs.tables.lines.Statement.{statement}
 use Rattle.views.proofs.tables.lines.Tie as tie
 
 abbrev Inv-loop : tie.InvT-loop
-Inv-loop w size shown at₀ at = at ≤ length w
+Inv-loop w size shown identifier at₀ at = at ≤ length w
 
 abbrev μ-loop : tie.MeasureT-loop
-μ-loop w size shown at₀ at = length w - at
+μ-loop w size shown identifier at₀ at = length w - at
 
 pub lines-spec : {M : Type 1} → statement M
 lines-spec =

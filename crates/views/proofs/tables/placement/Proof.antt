@@ -14,7 +14,7 @@ column-of-requires : tie.Need-column-of-requires
 column-of-requires c κs = given c
 
 row-of-requires : tie.Need-row-of-requires
-row-of-requires c κs = given (c .before .before .before .before)
+row-of-requires c κs = given (c .before .before .before)
 
 pub placement-spec : {M : Type 1} → statement M
 placement-spec =
@@ -25,14 +25,11 @@ placement-spec =
     column-of-requires
     (λ c κs. search needs)
     (λ c. search needs)
-    (λ c κs. search needs)
     row-of-requires
     (λ c κs. search needs)
     (λ c. search needs)
     (λ c κs. search needs)
-    (λ c κs. search needs)
     (λ c. search needs)
-    (λ c κs. search needs)
     (λ c κs. search needs)
     (λ c κs. search needs)
     (λ c κs. search needs)

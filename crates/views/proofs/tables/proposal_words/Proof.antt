@@ -7,10 +7,10 @@ use Rattle.views.proofs.tables.proposal_words.Statement.{statement}
 use Rattle.views.proofs.tables.proposal_words.Tie as tie
 
 abbrev Inv-loop : tie.InvT-loop
-Inv-loop p w messages j₀ j = j ≤ messages
+Inv-loop p w mark messages j₀ j = j ≤ messages
 
 abbrev μ-loop : tie.MeasureT-loop
-μ-loop p w messages j₀ j = messages - j
+μ-loop p w mark messages j₀ j = messages - j
 
 pub proposal-words-spec : {M : Type 1} → statement M
 proposal-words-spec =
@@ -22,7 +22,9 @@ proposal-words-spec =
     (λ c. search needs)
     (λ c κs. search needs)
     (λ c. search needs)
-    (λ c κs. member (c .before .before .before .before .before .before .before .pre) (omega arith))
+    (λ c κs. search needs)
+    (λ c. search needs)
+    (λ c κs. member (c .before .before .before .before .before .before .before .before .before .pre) (omega arith))
     (λ c. search needs)
     (λ c. search needs)
     (λ c. search needs)

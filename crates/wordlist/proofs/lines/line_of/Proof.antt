@@ -1,0 +1,28 @@
+-- A turn a byte; the line is at most one more than the bytes passed.
+use Prim.Native.Nat.{_≤_, _+_, _-_}
+use mathlib.Core.Logic.{⊎-elim}
+use native.Mathlib.Omega.{arith}
+use lib.ListN.{length}
+use borrow.Author.Needs.{needs}
+use Rattle.wordlist.proofs.lines.line_of.Statement.{statement}
+use Rattle.wordlist.proofs.lines.line_of.Tie as tie
+
+abbrev Inv-loop : tie.InvT-loop
+Inv-loop text line₀ i₀ line i = (i ≤ length text) × (1 ≤ line) × (line ≤ i + 1)
+
+abbrev μ-loop : tie.MeasureT-loop
+μ-loop text line₀ i₀ line i = length text - i
+
+pub line-of-spec : {M : Type 1} → statement M
+line-of-spec =
+    tie.close
+    (tie.spec
+    Inv-loop
+    μ-loop
+    (λ c. search needs)
+    (λ c. search needs)
+    (λ c. search needs)
+    (λ c. search needs)
+    (λ c. search needs)
+    (λ c. ⊎-elim (λ w. omega arith) (λ w. omega arith) (c .if1 .came))
+    (λ c. search needs))
