@@ -808,6 +808,8 @@ typed() {
 typed docs/MANUAL.md
 sed -n 's/^    //p' README.md | grep -A 10 '^window' | cmp -s - <(./ttplan | grep -A 10 -m 1 '^window')
 verdict 'README.md shows the example as it is planned'
+sed -n 's/^    //p' README.md | grep -A 10 '^# Case T1' | cmp -s - $e/t1.words
+verdict "README.md shows $e/t1.words"
 grep -q '^    refused 7, my.words, line 31, message 5 (0x050): period 15000; it must be 1000 times 1, 2 or 4$' README.md && grep -qF 'refused 7, my.words, line 31, message 5' docs/MANUAL.md
 verdict "README.md shows a refusal of docs/MANUAL.md"
 sed -n 's/^    //p' docs/MANUAL.md | grep -A 21 -F '# The matrix; a new message' | cmp -s - <(sed -n '/^# The matrix/,$p' $e/press-line-2.plan | grep .)
