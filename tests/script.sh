@@ -95,7 +95,7 @@ builds() {
     acts well
     run show fine
     [ "$status" -eq 0 ] && [ "$(cat "$scratch/out")" = '2: show fine' ] && printf '%s\n' \
-        "ttplan: proving and building the program, since $1; the first time this takes about ten minutes" \
+        "ttplan: proving and building the program, since $1; the first time this takes about twelve minutes" \
         'ttplan: proved 2 of 3: middle (3 s)' 'ttplan: proved 3 of 3: ttplan (1 s)' | cmp -s - "$scratch/err" && [ -z "$(ls -A "$scratch/tmp")" ]
     verdict "the program is built where $1"
 }
