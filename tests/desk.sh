@@ -649,6 +649,9 @@ is_bad 'no such command' frobnicate
 for arguments in '' "$e/t1.tsm $e/t1.plan"; do
     is_bad 'ttplan check FILE PROPOSAL shows them' losses $arguments
 done
+run help
+! grep -q '^ttplan losses' "$scratch/out"
+verdict 'ttplan help does not name losses'
 is_bad 'use: ttplan check FILE PROPOSAL' check $e/t1.tsm
 is_bad 'use: ttplan show FILE [PROPOSAL]' show
 is_bad 'use: ttplan plan FILE' plan $e/t1.tsm $e/t1.plan
