@@ -3,7 +3,6 @@
 ghost use Rattle.std.specs.Prelude.{◌<◌, ◌≤◌};
 
 use basics::wide;
-use sheet::Kind;
 
 // No identifier is larger, and no frame has more data bytes.
 pub const MOST_IDENTIFIER: u32 = 2047;
@@ -63,10 +62,10 @@ pub fn identifier(name: &[u8], id: u32) {
     paper::say_hex(b" to ", wide(MOST_IDENTIFIER));
 }
 
-// An identifier that something before has too, which may have a name in a sheet.
-pub fn taken(id: u32, thing: &[u8], i: u32, text: &[u8]) {
+// An identifier that something before has too.
+pub fn taken(id: u32, thing: &[u8], i: u32) {
     paper::say_hex(b"identifier ", wide(id));
-    names::say_number(thing, wide(i), text, Kind::Message);
+    paper::say_number(thing, i);
     paper::say(b" has it too, and each must have its own");
 }
 

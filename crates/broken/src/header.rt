@@ -1,6 +1,4 @@
 // What is wrong with a header, or with the length that it gives a file or a problem's words.
-ghost use Rattle.std.specs.Prelude.{◌<◌};
-
 use super::fields::{identifier, range, value, word};
 use basics::{byte, wide};
 use problem::HEAD_BYTES;
@@ -51,11 +49,8 @@ fn column_words(text: &[u8]) -> usize {
     2
 }
 
-// The line of a problem's word list that has a wrong count of words, if there is one record a line.
+// The line of a problem's text that has a wrong count of words, if there is one record a line.
 pub fn wrong_record(words: &[u32], text: &[u8]) {
-    if sheet::is_sheet(text) {
-        return;
-    }
     let columns = wide(word(words, words::COLUMNS));
     let messages = wide(word(words, words::MESSAGES));
     wrong_line(
@@ -70,11 +65,8 @@ pub fn wrong_record(words: &[u32], text: &[u8]) {
     );
 }
 
-// A header of a word list whose line has a word or two too many or too few: the numbers behind them are not what they seem.
+// A header whose line has a word or two too many or too few: the numbers behind them are not what they seem.
 fn wrong_header(text: &[u8]) {
-    if sheet::is_sheet(text) {
-        return;
-    }
     let count = lines::words_from(text, 0);
     if (4 < count) & (count < 10) & (count != words::HEADER_WORDS) {
         paper::say_count(b"; line ", lines::line_at(text, 0));
@@ -173,9 +165,7 @@ fn rule(words: &[u32], at: usize) {
 }
 
 // Which word of a header has the number that a file has at a byte.
-fn word_of(at: usize) -> usize
-    ensures { result < 7 }
-{
+fn word_of(at: usize) -> usize {
     if at == problem::ROWS_AT {
         words::ROWS
     } else if at == problem::CYCLE_AT {
@@ -195,7 +185,7 @@ fn word_of(at: usize) -> usize
 
 // The first wrong number of the header of a problem's words, which a text has.
 pub fn word_number(words: &[u32], text: &[u8], at: u32) {
-    origin::header_line(text, word_of(wide(at)));
+    origin::line(text, word_of(wide(at)));
     rule(words, wide(at));
     wrong_header(text);
 }

@@ -5,13 +5,11 @@ mod records;
 
 pub use header::wrong_line;
 use rules::Refusal;
-use sheet::Kind;
 
-// A message or an event, by its place, its identifier and its name in a sheet.
-pub fn name(thing: &[u8], text: &[u8], j: usize, identifier: usize) {
+// A message or an event, by its place and its identifier.
+pub fn name(thing: &[u8], j: usize, identifier: usize) {
     paper::say_count(thing, j);
     paper::say_hex(b" (", identifier);
-    names::say(b", ", text, Kind::Message, j);
     paper::say(b")");
 }
 

@@ -8,7 +8,6 @@ use problem::Layout;
 use reader::answer::Read;
 use rules::words::{COLUMN_WORDS, MESSAGE_WORDS};
 use rules::{Refusal, words};
-use sheet::Kind;
 
 // No start, no width and no mask of receivers is larger.
 const MOST: u32 = 65535;
@@ -139,27 +138,27 @@ fn place(words: &[u32], text: &[u8], given: Given, k: usize)
     let columns = wide(word(words, words::COLUMNS));
     match given {
         Given::File(layout) => paper::say_count(b", byte ", origin::byte_at(k, columns, layout)),
-        Given::Text(size) => origin::word_line(text, k, columns, smaller(size, 3)),
+        Given::Text(size) => origin::line(text, origin::said_at(k, columns, smaller(size, 3))),
     }
 }
 
 // ---- columns
 
 // What ends at the earliest place at which a column may start.
-fn before(text: &[u8], c: u32) {
+fn before(c: u32) {
     if c == 0 {
         paper::say(b", where the reference window ends");
         return;
     }
-    names::say_number(b", where column ", wide(c - 1), text, Kind::Column);
+    paper::say_number(b", where column ", c - 1);
     paper::say(b" ends");
 }
 
 // A column that starts too early, or behind one that ends too late.
-fn early(text: &[u8], start: u32, from: usize, cycle: u32, c: u32) {
+fn early(start: u32, from: usize, cycle: u32, c: u32) {
     fields::value(b"start", start);
     paper::say_count(b"at least ", from);
-    before(text, c);
+    before(c);
     if wide(cycle) < from {
         paper::say_number(b", beyond the basic cycle, ", cycle);
     }
@@ -195,17 +194,16 @@ fn beyond(words: &[u32], start: u32, width: u32) {
 }
 
 // What is said of a column that breaks a rule.
-fn column(rule: Rule, words: &[u32], text: &[u8], columns: &[u32], c: u32) {
+fn column(rule: Rule, words: &[u32], columns: &[u32], c: u32) {
     let start = field(columns, COLUMN_WORDS, c, words::START);
     let width = field(columns, COLUMN_WORDS, c, words::WIDTH);
-    names::say_number(b", column ", wide(c), text, Kind::Column);
+    paper::say_number(b", column ", c);
     paper::say(b": ");
     match rule {
         Rule::Start => range(b"start", start, 0, MOST),
         Rule::Width => range(b"width", width, 1, MOST),
         Rule::Kind => kind(field(columns, COLUMN_WORDS, c, words::KIND)),
         Rule::Early => early(
-            text,
             start,
             earliest(words, columns, c),
             word(words, words::CYCLE),
@@ -217,13 +215,8 @@ fn column(rule: Rule, words: &[u32], text: &[u8], columns: &[u32], c: u32) {
 
 // ---- messages
 
-// A message that its sender receives; a sheet names nodes, and a word list has a sum of them.
-fn own(text: &[u8], receivers: u32, sender: u32) {
-    if sheet::is_sheet(text) {
-        names::say(b"its sender, ", text, Kind::Node, wide(sender));
-        paper::say(b", is one of its receivers; it must not be among them");
-        return;
-    }
+// A message that its sender receives.
+fn own(receivers: u32, sender: u32) {
     paper::say_number(b"receivers ", receivers);
     paper::say_number(b" have its sender among them, node ", sender);
     paper::say_number(
@@ -267,11 +260,11 @@ fn timing(rule: Rule, words: &[u32], messages: &[u32], j: u32) {
 }
 
 // What is said of a message that breaks a rule.
-fn message(rule: Rule, words: &[u32], text: &[u8], messages: &[u32], j: u32) {
+fn message(rule: Rule, words: &[u32], messages: &[u32], j: u32) {
     let id = field(messages, MESSAGE_WORDS, j, words::IDENTIFIER);
     let sender = field(messages, MESSAGE_WORDS, j, words::SENDER);
     let receivers = field(messages, MESSAGE_WORDS, j, words::RECEIVERS);
-    name(b", message ", text, wide(j), wide(id));
+    name(b", message ", wide(j), wide(id));
     paper::say(b": ");
     match rule {
         Rule::Identifier => fields::identifier(b"identifier ", id),
@@ -290,12 +283,11 @@ fn message(rule: Rule, words: &[u32], text: &[u8], messages: &[u32], j: u32) {
             range(b"receivers", receivers, 0, MOST);
             paper::say(b", 1 for node 0 and 2 for node 1 and 4 for node 2 and so on");
         }
-        Rule::Own => own(text, receivers, sender),
+        Rule::Own => own(receivers, sender),
         Rule::Taken => fields::taken(
             id,
             b"; message ",
             fields::first_like(messages, MESSAGE_WORDS, j),
-            text,
         ),
         _ => timing(rule, words, messages, j),
     }
@@ -326,13 +318,13 @@ fn triggers(words: &[u32], node: u32) -> u32 {
 fn limit_place(text: &[u8], given: Given) {
     match given {
         Given::File(_) => paper::say_count(b", byte ", problem::LIMIT_AT),
-        Given::Text(_) => origin::header_line(text, words::LIMIT),
+        Given::Text(_) => origin::line(text, words::LIMIT),
     }
 }
 
 // A node, and how many triggers it needs.
-fn node(words: &[u32], text: &[u8], n: u32) {
-    names::say_number(b", node ", wide(n), text, Kind::Node);
+fn node(words: &[u32], n: u32) {
+    paper::say_number(b", node ", n);
     paper::say_number(b": it needs ", triggers(words, n));
     paper::say(
         b" triggers, one for the reference and one for each message that it sends or receives; the limit is ",
@@ -359,7 +351,7 @@ fn say_column(words: &[u32], text: &[u8], given: Given, c: u32) {
         given,
         words::HEADER_WORDS + COLUMN_WORDS * wide(c) + word_of(rule),
     );
-    column(rule, words, text, &words[at..], c);
+    column(rule, words, &words[at..], c);
     miscounted(given, field(&words[at..], COLUMN_WORDS, c, words::KIND));
 }
 
@@ -382,7 +374,7 @@ fn say_message(q: Refusal, words: &[u32], text: &[u8], given: Given, j: u32) {
         given,
         from + MESSAGE_WORDS * wide(j) + word_of(rule),
     );
-    message(rule, words, text, &words[at..], j);
+    message(rule, words, &words[at..], j);
 }
 
 // What is wrong with a problem's words behind their header.
@@ -393,7 +385,7 @@ fn of_words(q: Refusal, words: &[u32], text: &[u8], given: Given) {
         Refusal::Timing(j) => say_message(q, words, text, given, j),
         Refusal::Triggers(n) => {
             limit_place(text, given);
-            node(words, text, n);
+            node(words, n);
         }
         _ => {}
     }

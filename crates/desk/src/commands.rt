@@ -1,14 +1,11 @@
 // The commands: what each is given and what it answers. The first line on standard error tells the script what came of it: done, missed, differs, refused and why,
 // or that the program is used otherwise.
-ghost use Rattle.std.specs.Prelude.{◌≤◌};
 ghost use Rattle.rules.specs.Problem.{WellFormed};
 
-use super::example;
-use changing::{comparing, extending, listing};
+use super::{example, extending, listing};
 use files::input::Use;
 use files::{input, mark, output};
 use judge::Judged;
-use losses::BusTime;
 use origin::Subject;
 use planner::answer::Planned;
 use problem::Layout;
@@ -17,7 +14,7 @@ use problem::recast::column_words;
 use response::Responded;
 use versions::Moved;
 use views::matrix::Form;
-use views::{csv, matrix, sheets, tables};
+use views::{matrix, tables};
 
 // The node that stands for all of them.
 const ALL_NODES: u32 = rules::words::NODES;
@@ -26,21 +23,15 @@ const ALL_NODES: u32 = rules::words::NODES;
 #[derive(Drop)]
 enum Command {
     Show,
-    ShowCsv,
     Check,
     Plan,
     Replan,
     Extend,
     Lists,
-    ListsCsv,
-    Compare,
-    Why,
-    Picture,
     Hold,
     Due,
     Times,
     Words,
-    Sheet,
     File,
     Up,
     Back,
@@ -52,8 +43,6 @@ enum Command {
 enum View {
     Problem,
     Words,
-    Sheet,
-    Csv,
     Proposal,
     Verdict,
     Matrix,
@@ -62,50 +51,47 @@ enum View {
 
 // ---- answers
 
-// Shows the problem of a file of that version, which a text names the parts of.
-fn show_problem(layout: Layout, p: &[u32], text: &[u8])
+// Shows the problem of a file of that version.
+fn show_problem(layout: Layout, p: &[u32])
     requires { WellFormed p.now }
 {
     tables::header(p, version_of(layout));
-    tables::messages(p, text);
+    tables::messages(p);
 }
 
 // Shows a well-formed problem, or what a proposal makes of it.
-fn present(view: View, layout: Layout, p: &[u32], text: &[u8], w: &[u32])
+fn present(view: View, layout: Layout, p: &[u32], w: &[u32])
     requires { WellFormed p.now }
 {
     paper::say(b"done\n");
     match view {
         View::Verdict => paper::line(b"accepted"),
         View::Problem => {
-            show_problem(layout, p, text);
-            matrix::show(p, text, w, &[], Form::Windows);
+            show_problem(layout, p);
+            matrix::show(p, w, &[], Form::Windows);
         }
         View::Words => tables::problem_words(p, column_words(layout)),
-        View::Sheet => sheets::show(p, text, version_of(layout)),
-        View::Csv => csv::messages(p, text, w),
-        View::Proposal => tables::proposal_words(p, text, w, mark::of(p)),
+        View::Proposal => tables::proposal_words(p, w, mark::of(p)),
         View::Matrix => {
-            show_problem(layout, p, text);
-            matrix::show(p, text, w, &[], Form::Matrix);
-            tables::margins(p, text, w);
+            show_problem(layout, p);
+            matrix::show(p, w, &[], Form::Matrix);
             paper::end_line();
         }
         View::Example => {
             paper::line(b"Document 003's example, planned");
-            matrix::show(p, text, w, &[], Form::Matrix);
+            matrix::show(p, w, &[], Form::Matrix);
             paper::end_line();
         }
     }
 }
 
 // Reads a problem file and shows it, or says why it is refused.
-fn show(view: View, file: &[u8], text: &[u8], w: &[u32]) {
+fn show(view: View, file: &[u8], w: &[u32]) {
     let layout = input::layout(file);
     let mut words = [basics::FILL; rules::words::MOST_WORDS];
     let n = input::decoded(file, &mut words);
     if 0 < n {
-        present(view, layout, &words[..n], text, w);
+        present(view, layout, &words[..n], w);
     }
 }
 
@@ -115,35 +101,10 @@ fn show_proposal(view: View, file: &[u8], text: &[u8], w: &[u32], plan: &[u8]) {
     match got {
         Judged::Refused(q) => reasons::of_file(q, file, text, w, plan, Subject::Given),
         Judged::Accepted(t) => {
-            show(view, file, text, w);
-            match view {
-                View::Csv => {}
-                _ => tables::bus_time(t),
-            }
+            show(view, file, w);
+            tables::bus_time(t);
         }
     }
-}
-
-// Draws a proposal that is accepted, or says why it is refused.
-fn draw(file: &[u8], text: &[u8], w: &[u32], plan: &[u8]) {
-    let got = judge::judge(file, w);
-    match got {
-        Judged::Refused(q) => reasons::of_file(q, file, text, w, plan, Subject::Given),
-        Judged::Accepted(t) => draw_accepted(file, text, w, t),
-    }
-}
-
-// Draws a proposal, with where the bus time goes.
-fn draw_accepted(file: &[u8], text: &[u8], w: &[u32], t: BusTime)
-    requires { 1 ≤ t.reference }
-{
-    let mut words = [basics::FILL; rules::words::MOST_WORDS];
-    let n = input::decoded(file, &mut words);
-    if n == 0 {
-        return;
-    }
-    paper::say(b"done\n");
-    picture::show(&words[..n], w, text, t);
 }
 
 // Shows what the planner wrote as a word list, which can be checked as it stands, or why it refuses a problem and placements to keep.
@@ -160,7 +121,7 @@ fn show_planned(
         Planned::Refused(q) => reasons::of_file(q, file, text, kept, list, subject),
         Planned::Proposal(n) => {
             let n = input::within(n, proposal);
-            show(View::Proposal, file, text, &proposal[..n]);
+            show(View::Proposal, file, &proposal[..n]);
         }
     }
 }
@@ -217,10 +178,8 @@ fn on_problem(command: Command) {
     let m = got.text;
     match command {
         Command::Plan => plan(&bytes[..n], &text[..m]),
-        Command::Words => show(View::Words, &bytes[..n], &text[..m], &[]),
-        Command::Sheet => show(View::Sheet, &bytes[..n], &text[..m], &[]),
-        Command::ShowCsv => show(View::Csv, &bytes[..n], &text[..m], &[]),
-        _ => show(View::Problem, &bytes[..n], &text[..m], &[]),
+        Command::Words => show(View::Words, &bytes[..n], &[]),
+        _ => show(View::Problem, &bytes[..n], &[]),
     }
 }
 
@@ -239,24 +198,7 @@ fn with_proposal(command: Command, file: &[u8], text: &[u8], w: &[u32], plan: &[
     }
     match command {
         Command::Check => show_proposal(View::Verdict, file, text, w, plan),
-        Command::Lists => listing::show(
-            file,
-            text,
-            w,
-            plan,
-            basics::wide(number),
-            listing::Form::Tables,
-        ),
-        Command::ListsCsv => listing::show(
-            file,
-            text,
-            w,
-            plan,
-            basics::wide(number),
-            listing::Form::Csv,
-        ),
-        Command::Picture => draw(file, text, w, plan),
-        Command::ShowCsv => show_proposal(View::Csv, file, text, w, plan),
+        Command::Lists => listing::show(file, text, w, plan, basics::wide(number)),
         Command::Hold => holding::hold_file(file, text, w, plan, number),
         Command::Due => holding::show_due(file, text, w, plan, number),
         _ => show_proposal(View::Matrix, file, text, w, plan),
@@ -295,9 +237,9 @@ fn on_proposal(command: Command, number: u32) {
 }
 
 // The trigger lists of all nodes, or of the node that an argument names.
-fn on_lists(command: Command, arguments: usize) {
+fn on_lists(arguments: usize) {
     if arguments == 4 {
-        on_proposal(command, ALL_NODES);
+        on_proposal(Command::Lists, ALL_NODES);
         return;
     }
     let node = input::number(4);
@@ -306,7 +248,7 @@ fn on_lists(command: Command, arguments: usize) {
         paper::say(b"\n");
         return;
     }
-    on_proposal(command, node as u32);
+    on_proposal(Command::Lists, node as u32);
 }
 
 // A log held against a plan, or the log that is due, over the span that argument i names.
@@ -336,24 +278,24 @@ fn on_events() {
     show_times(&words[..n], &text[..m]);
 }
 
-// The file of a problem's sheet or word list.
-fn on_text() {
+// The file of a problem's words.
+fn on_words() {
     let mut text = io::large_buffer();
-    let mut bytes = io::large_buffer();
-    let got = input::problem(Subject::Given, &mut text, &mut bytes);
+    let mut words = [0u32; input::LIST_WORDS];
+    let got = input::words(2, &mut text, &mut words, Use::List);
     if !got.is_good {
         return;
     }
-    if got.text == 0 {
-        origin::named(b"ttplan: ", 2);
-        paper::say(
-            b": a problem file, where a sheet or a word list is due; ttplan sheet and ttplan words make one of it\n",
-        );
+    let n = got.count;
+    let m = got.text;
+    let mut bytes = [0u8; problem::MOST_BYTES];
+    let told = input::written(&words[..n], &text[..m], &mut bytes, Subject::Given);
+    if !told.is_good {
         return;
     }
-    let n = got.count;
+    let k = told.count;
     paper::say(b"done\n");
-    paper::text(&bytes[..n]);
+    paper::text(&bytes[..k]);
 }
 
 // Keeps a file that has been moved to a version under the name that an argument gives, and says how long it is.
@@ -385,7 +327,7 @@ fn on_move(layout: Layout) {
     }
     if (0 < got.text) & output::is_same_name(2, 3) {
         paper::say(
-            b"ttplan: OUT is the text that is read; a problem file needs a name of its own\n",
+            b"ttplan: OUT is the word list that is read; a problem file needs a name of its own\n",
         );
         return;
     }
@@ -425,7 +367,7 @@ fn show_example(file: &[u8]) {
             let n = input::within(n, &proposal);
             show_proposal(View::Example, file, &[], &proposal[..n], &[]);
             paper::end_line();
-            listing::show(file, &[], &proposal[..n], &[], 0, listing::Form::Tables);
+            listing::show(file, &[], &proposal[..n], &[], 0);
         }
     }
 }
@@ -458,26 +400,6 @@ fn plan_command_named(name: &[u8]) -> Command {
     if wordlist::is_same(name, b"due") {
         return Command::Due;
     }
-    view_command_named(name)
-}
-
-// The command that shows a plan otherwise, or speaks of plans, which the first argument names; the script has -csv for an option.
-fn view_command_named(name: &[u8]) -> Command {
-    if wordlist::is_same(name, b"show-csv") {
-        return Command::ShowCsv;
-    }
-    if wordlist::is_same(name, b"lists-csv") {
-        return Command::ListsCsv;
-    }
-    if wordlist::is_same(name, b"picture") {
-        return Command::Picture;
-    }
-    if wordlist::is_same(name, b"compare") {
-        return Command::Compare;
-    }
-    if wordlist::is_same(name, b"why") {
-        return Command::Why;
-    }
     Command::Unknown
 }
 
@@ -488,9 +410,6 @@ fn command_named(name: &[u8]) -> Command {
     }
     if wordlist::is_same(name, b"words") {
         return Command::Words;
-    }
-    if wordlist::is_same(name, b"sheet") {
-        return Command::Sheet;
     }
     if wordlist::is_same(name, b"file") {
         return Command::File;
@@ -507,12 +426,11 @@ fn command_named(name: &[u8]) -> Command {
 // Whether a command takes so many arguments, the program's name and its own among them.
 fn takes(command: Command, arguments: usize) -> bool {
     match command {
-        Command::Show | Command::ShowCsv => (arguments == 3) | (arguments == 4),
-        Command::Check | Command::Replan | Command::Picture | Command::Up | Command::Back =>
-            arguments == 4,
-        Command::Lists | Command::ListsCsv => (arguments == 4) | (arguments == 5),
+        Command::Show => (arguments == 3) | (arguments == 4),
+        Command::Check | Command::Replan | Command::Up | Command::Back => arguments == 4,
+        Command::Lists => (arguments == 4) | (arguments == 5),
         Command::Hold => arguments == 6,
-        Command::Extend | Command::Compare | Command::Due => arguments == 5,
+        Command::Extend | Command::Due => arguments == 5,
         Command::Unknown => false,
         _ => arguments == 3,
     }
@@ -539,20 +457,19 @@ pub fn run() {
 fn obey(command: Command, arguments: usize) {
     match command {
         Command::Times => on_events(),
-        Command::File => on_text(),
+        Command::File => on_words(),
         Command::Up => on_move(Layout::Two),
         Command::Back => on_move(Layout::One),
-        Command::Why => explaining::why(),
-        Command::Compare => comparing::compare(),
-        Command::Plan | Command::Words | Command::Sheet => on_problem(command),
-        Command::Show | Command::ShowCsv => {
+        Command::Plan => on_problem(command),
+        Command::Words => on_problem(command),
+        Command::Show => {
             if arguments == 3 {
                 on_problem(command);
             } else {
                 on_proposal(command, ALL_NODES);
             }
         }
-        Command::Lists | Command::ListsCsv => on_lists(command, arguments),
+        Command::Lists => on_lists(arguments),
         Command::Extend => extending::extend(),
         Command::Hold => on_span(command, 5),
         Command::Due => on_span(command, 4),

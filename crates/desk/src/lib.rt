@@ -1,3 +1,5 @@
 // The planner's desk tool: what the program ttplan does. The calls that it makes are proved; what it prints is tested.
 pub mod commands;
 mod example;
+mod extending;
+mod listing;

@@ -4,7 +4,6 @@ ghost use Rattle.rules.specs.Problem.{WellFormed, most_words};
 ghost use Rattle.files.specs.Reading.{most_bytes};
 ghost use Rattle.io.specs.Counts.{IsPrefixLen};
 
-use super::sheets;
 use origin::Subject;
 use problem::{HEAD_BYTES, Layout};
 use reader::answer::Read;
@@ -134,7 +133,7 @@ fn shown(b: u8) -> u8 {
 }
 
 // Shows a word, or the front of a long one.
-pub fn say_word(word: &[u8]) {
+fn say_word(word: &[u8]) {
     paper::say(b": ");
     let mut i: usize = 0;
     while i < word.len() {
@@ -148,7 +147,7 @@ pub fn say_word(word: &[u8]) {
 }
 
 // What is wrong with a word that is no number.
-pub fn say_hint(hint: Hint, to: Use) {
+fn say_hint(hint: Hint, to: Use) {
     match hint {
         Hint::File => paper::say(
             b": a problem file, where a word list is due; ttplan words makes one of it",
@@ -183,10 +182,6 @@ fn say_wrong(text: &[u8], at: usize, to: Use, is_full: bool)
 {
     if is_full {
         say_full(to);
-        return;
-    }
-    if sheet::is_sheet(text) {
-        paper::say(b": a sheet, where a list of numbers is due\n");
         return;
     }
     let end = wordlist::word_end(text, at);
@@ -341,26 +336,8 @@ fn copy(from: &[u8], to: &mut [u8]) -> usize
     i
 }
 
-// The words of a problem's text, a sheet or a word list.
-fn problem_words(name: &[u8], text: &[u8], words: &mut [u32]) -> Taken
-    ensures { IsPrefixLen result.count words.new }
-{
-    if !sheet::is_sheet(text) {
-        return text_words(name, 0, text, words, Use::List);
-    }
-    let is_good = sheets::is_read(name, text);
-    if !is_good {
-        return Taken { is_good, count: 0 };
-    }
-    let n = sheet::reading::words(text, words);
-    Taken {
-        is_good,
-        count: within(n, words),
-    }
-}
-
 // The problem file that an argument names, and its text. A name that ends in .tsm and a file that begins with the mark are problem files;
-// anything else is a sheet or a word list, of which the file is made here.
+// anything else is a word list, of which the file is made here.
 pub fn problem(subject: Subject, text: &mut [u8], bytes: &mut [u8]) -> Source
     ensures { IsPrefixLen result.count bytes.new × IsPrefixLen result.text text.new }
 {
@@ -384,7 +361,7 @@ pub fn problem(subject: Subject, text: &mut [u8], bytes: &mut [u8]) -> Source
         };
     }
     let mut words = [0u32; LIST_WORDS];
-    let told = problem_words(&name[..m], &text[..n], &mut words);
+    let told = text_words(&name[..m], 0, &text[..n], &mut words, Use::List);
     if !told.is_good {
         return Source {
             is_good: false,

@@ -1,6 +1,5 @@
-// What the desk tool is given and what it keeps: problem files, sheets, word lists and logs, and what is said of one that cannot be read or written.
+// What the desk tool is given and what it keeps: problem files, word lists and logs, and what is said of one that cannot be read or written.
 pub mod input;
 pub mod mark;
 pub mod output;
 pub mod pieces;
-mod sheets;

@@ -36,27 +36,27 @@ fn say_other(made: u32, mark: u32, subject: Subject) {
     paper::say(b"; plan it anew, or take the line # problem out to use the plan as it stands\n");
 }
 
-// Whether a plan was made for another problem than this one, which is said then.
-fn is_of_other(p: &[u32], made: u32, subject: Subject) -> bool {
-    let mark = of(p);
-    if made == mark {
-        return false;
-    }
-    say_other(made, mark, subject);
-    true
-}
-
-// Whether the text of a plan says that it was made for another problem than that of a file; a file that has none tells nothing.
-pub fn is_other(file: &[u8], plan: &[u8], subject: Subject) -> bool {
+// Whether the text of a plan says that it was made for another problem than this one, which is said then.
+fn is_of_other(p: &[u32], plan: &[u8], subject: Subject) -> bool {
     let made = lines::mark_of(plan);
+    let mark = of(p);
     if NO_NUMBER <= made {
         return false;
     }
+    if made == long(mark) {
+        return false;
+    }
+    say_other(made as u32, mark, subject);
+    true
+}
+
+// The same for the problem of a file; a file that has none tells nothing.
+pub fn is_other(file: &[u8], plan: &[u8], subject: Subject) -> bool {
     let mut words = [FILL; words::MOST_WORDS];
     let got = reader::decode(file, &mut words);
     if let Read::Problem(n) = got {
         let n = input::within(n, &words);
-        return is_of_other(&words[..n], made as u32, subject);
+        return is_of_other(&words[..n], plan, subject);
     }
     false
 }

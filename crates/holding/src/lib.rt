@@ -6,7 +6,6 @@ use basics::{FILL, wide};
 use files::{input, pieces};
 use bus_log::{Difference, Due, Held, PAIR};
 use rules::words;
-use sheet::Kind;
 
 // ---- a send
 
@@ -33,16 +32,16 @@ fn bearer_of(p: &[u32], identifier: usize) -> Bearer
 }
 
 // Names what has an identifier.
-fn name(text: &[u8], bearer: Bearer) {
+fn name(bearer: Bearer) {
     match bearer {
         Bearer::Reference => paper::text(b"reference message"),
-        Bearer::Message(j) => names::number(b"message ", j, text, Kind::Message),
+        Bearer::Message(j) => paper::text_count(b"message ", j),
         Bearer::Nothing => paper::text(b"no message of the plan"),
     }
 }
 
 // The column of a message that has one.
-fn show_column(text: &[u8], w: &[u32], bearer: Bearer) {
+fn show_column(w: &[u32], bearer: Bearer) {
     let Bearer::Message(j) = bearer else {
         return;
     };
@@ -52,19 +51,19 @@ fn show_column(text: &[u8], w: &[u32], bearer: Bearer) {
     if !words::gives(w, j) {
         return;
     }
-    names::number(b", column ", words::column_of(w, j), text, Kind::Column);
+    paper::text_count(b", column ", words::column_of(w, j));
 }
 
 // What the plan has at a time with this identifier: a message, its matrix cycle, row and column.
-fn describe(p: &[u32], text: &[u8], w: &[u32], time: usize, identifier: usize)
+fn describe(p: &[u32], w: &[u32], time: usize, identifier: usize)
     requires { WellFormed p.now }
 {
     let bearer = bearer_of(p, identifier);
     let row = time / words::cycle_of(p);
-    name(text, bearer);
+    name(bearer);
     paper::text_count(b", matrix cycle ", row / words::rows_of(p));
     paper::text_count(b", row ", row % words::rows_of(p));
-    show_column(text, w, bearer);
+    show_column(w, bearer);
 }
 
 // A time and an identifier.
@@ -87,7 +86,7 @@ fn show_clean(sends: usize, span: u32) {
 }
 
 // What a log has at a pair, or that it ends there.
-fn show_logged(p: &[u32], text: &[u8], log: &[u32], pair: usize)
+fn show_logged(p: &[u32], log: &[u32], pair: usize)
     requires { WellFormed p.now × (pair < 4294967296) }
 {
     paper::text(b"in the log: ");
@@ -98,18 +97,18 @@ fn show_logged(p: &[u32], text: &[u8], log: &[u32], pair: usize)
     }
     let identifier = wide(log[at + 1]);
     show_pair(wide(log[at]), identifier);
-    name(text, bearer_of(p, identifier));
+    name(bearer_of(p, identifier));
     paper::end_line();
 }
 
 // The first pair that differs: what the log has there, and what is due.
-fn show_difference(p: &[u32], text: &[u8], w: &[u32], log: &[u32], d: Difference)
+fn show_difference(p: &[u32], w: &[u32], log: &[u32], d: Difference)
     requires { WellFormed p.now }
 {
     paper::say(b"differs\n");
     paper::text_number(b"differs at pair ", d.index);
     paper::line(b", counted from 0");
-    show_logged(p, text, log, wide(d.index));
+    show_logged(p, log, wide(d.index));
     paper::text(b"due there:  ");
     if d.identifier == bus_log::NOTHING {
         paper::line(b"nothing, the span ends there");
@@ -118,12 +117,12 @@ fn show_difference(p: &[u32], text: &[u8], w: &[u32], log: &[u32], d: Difference
     let time = wide(d.time);
     let identifier = wide(d.identifier);
     show_pair(time, identifier);
-    describe(p, text, w, time, identifier);
+    describe(p, w, time, identifier);
     paper::end_line();
 }
 
 // A line for each pair that is due, with what it is as a comment.
-fn show_list(p: &[u32], text: &[u8], w: &[u32], list: &[u32])
+fn show_list(p: &[u32], w: &[u32], list: &[u32])
     requires { WellFormed p.now }
 {
     paper::say(b"done\n");
@@ -134,7 +133,7 @@ fn show_list(p: &[u32], text: &[u8], w: &[u32], list: &[u32])
         paper::count(time);
         paper::text_hex(b" ", identifier);
         paper::text(b"  # ");
-        describe(p, text, w, time, identifier);
+        describe(p, w, time, identifier);
         paper::end_line();
         at += PAIR;
     }
@@ -148,21 +147,21 @@ enum View {
 }
 
 // Shows sends of a well-formed problem.
-fn present(view: View, p: &[u32], text: &[u8], w: &[u32], sends: &[u32])
+fn present(view: View, p: &[u32], w: &[u32], sends: &[u32])
     requires { WellFormed p.now }
 {
     match view {
-        View::Difference(d) => show_difference(p, text, w, sends, d),
-        View::List => show_list(p, text, w, sends),
+        View::Difference(d) => show_difference(p, w, sends, d),
+        View::List => show_list(p, w, sends),
     }
 }
 
 // Reads the problem once more, and shows sends of it.
-fn show(view: View, file: &[u8], text: &[u8], w: &[u32], sends: &[u32]) {
+fn show(view: View, file: &[u8], w: &[u32], sends: &[u32]) {
     let mut words = [FILL; words::MOST_WORDS];
     let n = input::decoded(file, &mut words);
     if 0 < n {
-        present(view, &words[..n], text, w, sends);
+        present(view, &words[..n], w, sends);
     }
 }
 
@@ -172,7 +171,7 @@ fn hold(file: &[u8], text: &[u8], w: &[u32], plan: &[u8], log: &[u32], span: u32
     match got {
         Held::Refused(q) => reasons::of_log(q, file, text, w, plan, log.len(), span),
         Held::Clean => show_clean(log.len() / PAIR, span),
-        Held::Differs(d) => show(View::Difference(d), file, text, w, log),
+        Held::Differs(d) => show(View::Difference(d), file, w, log),
     }
 }
 
@@ -184,7 +183,7 @@ pub fn show_due(file: &[u8], text: &[u8], w: &[u32], plan: &[u8], span: u32) {
         Due::Refused(q) => reasons::of_log(q, file, text, w, plan, 0, span),
         Due::Words(n) => {
             let n = input::within(n, &sends);
-            show(View::List, file, text, w, &sends[..n]);
+            show(View::List, file, w, &sends[..n]);
         }
     }
 }

@@ -4,16 +4,13 @@ ghost use Rattle.rules.specs.Parts.{Member};
 
 use problem::layout::{column_size, identifier_size, message_size};
 use problem::{HEAD_BYTES, Layout};
-use rules::words::{COLUMN_WORDS, HEADER_WORDS, MESSAGE_WORDS, message_at};
-use sheet::Kind;
+use rules::words::{COLUMN_WORDS, HEADER_WORDS, MESSAGE_WORDS};
 use wordlist::lines;
 
-// What a sentence speaks of: what a call is given, the second of two plans, an old problem and its plan, a list of placements to keep, or placements that were carried
-// over from an old plan.
+// What a sentence speaks of: what a call is given, an old problem and its plan, a list of placements to keep, or placements that were carried over from an old plan.
 #[derive(Drop)]
 pub enum Subject {
     Given,
-    Second,
     Old,
     Kept,
     Carried,
@@ -52,7 +49,7 @@ pub fn problem_at(subject: Subject) -> usize {
 // The argument that names the plan or the placements to keep; for those that were carried over, the problem.
 pub fn plan_at(subject: Subject) -> usize {
     match subject {
-        Subject::Old | Subject::Second => 4,
+        Subject::Old => 4,
         Subject::Carried => 2,
         _ => 3,
     }
@@ -75,8 +72,8 @@ fn all_of(size: usize, records: usize) -> usize
     size * records
 }
 
-// A problem has three words for a column. Where a word list has word k of one, in which a column has so many words.
-fn said_at(k: usize, columns: usize, size: usize) -> usize
+// A problem has three words for a column. Where a text has word k of one, in which a column has so many words.
+pub fn said_at(k: usize, columns: usize, size: usize) -> usize
     requires { (k < 68719476736) × (columns < 4294967296) × (size ≤ 3) }
 {
     let messages = HEADER_WORDS + COLUMN_WORDS * columns;
@@ -90,51 +87,12 @@ fn said_at(k: usize, columns: usize, size: usize) -> usize
     HEADER_WORDS + all_of(size, columns) + (k - messages)
 }
 
-// Says the line of record i of a kind in a sheet.
-fn record_line(text: &[u8], kind: Kind, i: usize) {
-    let record = sheet::record(text, kind, i);
-    let from = record.from;
-    paper::say_count(b", line ", lines::line_of(&text[0..from]));
-}
-
-// Says the line of a sheet that has word k of a problem with so many columns.
-fn sheet_line(text: &[u8], k: usize, columns: usize)
-    requires { columns < 4294967296 }
-{
-    let messages = HEADER_WORDS + COLUMN_WORDS * columns;
-    if k < HEADER_WORDS {
-        record_line(text, Kind::Matrix, 0);
-    } else if k < messages {
-        record_line(text, Kind::Column, (k - HEADER_WORDS) / COLUMN_WORDS);
-    } else {
-        record_line(text, Kind::Message, (k - messages) / MESSAGE_WORDS);
-    }
-}
-
-// Says the line that has word k of a problem with so many columns: in a sheet, or in a word list in which a column has so many words.
-pub fn word_line(text: &[u8], k: usize, columns: usize, size: usize)
-    requires { (k < 68719476736) × (columns < 4294967296) × (size ≤ 3) }
-{
-    if sheet::is_sheet(text) {
-        sheet_line(text, k, columns);
-    } else {
-        line(text, said_at(k, columns, size));
-    }
-}
-
-// Says the line that has word k of a problem's header.
-pub fn header_line(text: &[u8], k: usize)
-    requires { k < 7 }
-{
-    word_line(text, k, 0, 0);
-}
-
 // Says the line that has message j of a problem in a text, in which a column has so many words.
 pub fn message_line(p: &[u32], text: &[u8], size: usize, j: usize)
     requires { Member p.now j × (size ≤ 3) }
 {
-    let columns = rules::words::columns_of(p);
-    word_line(text, message_at(columns, j), columns, size);
+    let front = HEADER_WORDS + all_of(size, rules::words::columns_of(p));
+    line(text, front + MESSAGE_WORDS * j);
 }
 
 // The byte of a message's record at which a word of it stands, where the identifier has so many bytes.

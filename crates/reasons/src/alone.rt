@@ -72,7 +72,7 @@ fn homeless(p: &[u32], text: &[u8], size: usize, j: usize)
 {
     paper::say(b"\nno place even alone");
     origin::message_line(p, text, size, j);
-    name(b", message ", text, j, words::identifier_of(p, j));
+    name(b", message ", j, words::identifier_of(p, j));
     paper::say(b": ");
     reason(p, j);
 }

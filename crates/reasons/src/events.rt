@@ -59,12 +59,7 @@ fn identifier(events: &[u32], j: u32, id: u32) {
     if fields::MOST_IDENTIFIER < id {
         fields::identifier(b"identifier ", id);
     } else {
-        fields::taken(
-            id,
-            b"; event ",
-            fields::first_like(events, EVENT_WORDS, j),
-            &[],
-        );
+        fields::taken(id, b"; event ", fields::first_like(events, EVENT_WORDS, j));
     }
 }
 
@@ -93,7 +88,7 @@ fn begin(events: &[u32], text: &[u8], j: u32, at: usize)
 {
     let id = field(events, EVENT_WORDS, j, IDENTIFIER);
     origin::line(text, EVENT_WORDS * wide(j) + at);
-    name(b", event ", &[], wide(j), wide(id));
+    name(b", event ", wide(j), wide(id));
     paper::say(b": ");
 }
 

@@ -10,7 +10,6 @@ use origin::Subject;
 use problem::recast::column_words;
 use reader::answer::Read;
 use rules::{Refusal, placing, words};
-use sheet::Kind;
 use wordlist::lines::Shape;
 
 // The words of a placement.
@@ -86,25 +85,17 @@ fn no_plan(p: &[u32], text: &[u8], size: usize, w: &[u32], subject: Subject)
         }
     }
     alone::show(p, text, size, w, &taken);
-    if let Subject::Given = subject {
-        paper::say(b"\nttplan why names a smallest set of messages that have no plan together");
-    }
 }
 
 // ---- one message
 
 // A message of a problem, by its name.
-fn message(p: &[u32], text: &[u8], j: usize, subject: Subject)
+fn message(p: &[u32], j: usize, subject: Subject)
     requires { Member p.now j }
 {
     match subject {
-        Subject::Kept | Subject::Carried => name(
-            b"kept message ",
-            text,
-            j,
-            words::identifier_of(p, j),
-        ),
-        _ => name(b"message ", text, j, words::identifier_of(p, j)),
+        Subject::Kept | Subject::Carried => name(b"kept message ", j, words::identifier_of(p, j)),
+        _ => name(b"message ", j, words::identifier_of(p, j)),
     }
 }
 
@@ -156,7 +147,7 @@ fn out_of_range(p: &[u32], w: &[u32], j: usize)
 }
 
 // The columns that are as wide as a frame.
-fn wide_columns(p: &[u32], text: &[u8], frame: usize)
+fn wide_columns(p: &[u32], frame: usize)
     requires { WellFormed p.now }
 {
     let columns = words::columns_of(p);
@@ -164,7 +155,7 @@ fn wide_columns(p: &[u32], text: &[u8], frame: usize)
     let mut c: usize = 0;
     while c < columns {
         if frame <= words::width_of(p, c) {
-            names::say_number(b" ", c, text, Kind::Column);
+            paper::say_count(b" ", c);
             is_any = true;
         }
         c += 1;
@@ -175,7 +166,7 @@ fn wide_columns(p: &[u32], text: &[u8], frame: usize)
 }
 
 // A frame that is longer than the column of message j is wide.
-fn width(p: &[u32], text: &[u8], w: &[u32], j: usize)
+fn width(p: &[u32], w: &[u32], j: usize)
     requires { Member p.now j × Gives w.now j }
 {
     let c = words::column_of(w, j);
@@ -183,11 +174,11 @@ fn width(p: &[u32], text: &[u8], w: &[u32], j: usize)
         return;
     }
     let frame = words::frame_of(p, j);
-    names::say_number(b": column ", c, text, Kind::Column);
+    paper::say_count(b": column ", c);
     paper::say_count(b" is ", words::width_of(p, c));
     paper::say_count(b" wide, and its frame takes ", frame);
     paper::say(b"; wide enough:");
-    wide_columns(p, text, frame);
+    wide_columns(p, frame);
 }
 
 // What a send waits and takes, and how much later than its deadline it ends.
@@ -205,7 +196,7 @@ fn times(wait: usize, frame: usize, deadline: usize)
 }
 
 // A send of message j that ends after its deadline.
-fn late(p: &[u32], text: &[u8], w: &[u32], j: usize)
+fn late(p: &[u32], w: &[u32], j: usize)
     requires { Member p.now j × Gives w.now j }
 {
     let c = words::column_of(w, j);
@@ -219,7 +210,7 @@ fn late(p: &[u32], text: &[u8], w: &[u32], j: usize)
     let wait = placing::wait_of(p, j, c, r);
     let frame = words::frame_of(p, j);
     let deadline = words::deadline_of(p, j);
-    names::say_number(b": in column ", c, text, Kind::Column);
+    paper::say_count(b": in column ", c);
     paper::say_count(b", base row ", r);
     times(wait, frame, deadline);
 }
@@ -266,11 +257,11 @@ fn own(
 {
     place(p, text, size, plan, j, wrong_word(q, p, w, j), subject);
     paper::say(b", ");
-    message(p, text, j, subject);
+    message(p, j, subject);
     match q {
         Refusal::Range(_) => out_of_range(p, w, j),
-        Refusal::Width(_) => width(p, text, w, j),
-        _ => late(p, text, w, j),
+        Refusal::Width(_) => width(p, w, j),
+        _ => late(p, w, j),
     }
 }
 
@@ -305,11 +296,11 @@ fn meeting(
     let column = words::column_of(w, j);
     place(p, text, size, plan, j, 0, subject);
     paper::say(b", ");
-    message(p, text, j, subject);
+    message(p, j, subject);
     paper::say(b" meets ");
-    message(p, text, i, subject);
+    message(p, i, subject);
     place(p, text, size, plan, i, 0, subject);
-    names::say_number(b", in column ", column, text, Kind::Column);
+    paper::say_count(b", in column ", column);
     paper::say_count(b", row ", row);
 }
 
@@ -395,7 +386,7 @@ fn of_problem(
         }
         Refusal::TooMany => {
             origin::named(b", ", origin::problem_at(subject));
-            origin::header_line(text, words::MESSAGES);
+            origin::line(text, words::MESSAGES);
             too_many(p, w, subject);
         }
         _ => of_plan(q, p, text, size, w, plan, subject),

@@ -1,8 +1,5 @@
 // What the desk shows: a problem, the matrix of a plan, its losses, trigger lists and response times as tables, words as a text that can be read back,
 // and what a new plan changes.
 pub mod changes;
-pub mod csv;
 pub mod matrix;
-mod placed;
-pub mod sheets;
 pub mod tables;

@@ -6,18 +6,13 @@ ghost use Rattle.response.specs.Events.{event_words, most_events};
 ghost use Rattle.response.specs.Parts.{Ready};
 ghost use Rattle.rules.specs.Parts.{Member};
 
-use super::placed;
 use basics::wide;
 use losses::BusTime;
 use response::{EVENT_WORDS, Worst};
 use rules::words;
-use sheet::Kind;
 use triggers::{ENTRY_WORDS, KIND_WEIGHT, NODES};
 
 // ---- the problem
-
-// The heading of a column of names.
-const NAME: [u8; 4] = *b"name";
 
 // One number of the header, by its name.
 fn item(name: &[u8], n: usize) {
@@ -42,97 +37,43 @@ pub fn header(p: &[u32], version: u32)
     item(b"messages", words::messages_of(p));
 }
 
-// How many characters the column of the messages' names has; none if there are no names.
-fn name_width(text: &[u8], messages: usize) -> usize {
-    let width = names::width(text, Kind::Message, messages);
-    if (0 < width) & (width < NAME.len()) {
-        return NAME.len();
-    }
-    width
-}
-
-// The heading of a table of messages, with the column of their names if it has some characters.
-fn heading(width: usize, rest: &[u8]) {
-    paper::text(b"\nmessage     id");
-    if 0 < width {
-        paper::text(b"  ");
-        paper::left_text(&NAME, width);
-    }
-    paper::line(rest);
-}
-
-// How a line of such a table begins.
-fn begin(p: &[u32], text: &[u8], j: usize, width: usize)
-    requires { Member p.now j }
-{
-    paper::right_count(j, 7);
-    paper::right_hex(words::identifier_of(p, j), 7);
-    if 0 < width {
-        paper::text(b"  ");
-        names::left(text, Kind::Message, j, width);
+// The nodes of a receiver mask.
+fn receivers(mask: u32) {
+    let mut n: u32 = 0;
+    while n < words::NODES {
+        if basics::has_bit(mask, n) {
+            paper::text(b" ");
+            paper::number(n);
+        }
+        n += 1;
     }
 }
 
 // One message: a line of its numbers, its receivers last.
-fn message(p: &[u32], text: &[u8], j: usize, width: usize)
+fn message(p: &[u32], j: usize)
     requires { Member p.now j }
 {
-    begin(p, text, j, width);
+    paper::right_count(j, 7);
+    paper::right_hex(words::identifier_of(p, j), 7);
+    paper::right_count(words::sender_of(p, j), 6);
     paper::right_count(words::size_of(p, j), 6);
     paper::right_count(words::period_of(p, j), 9);
     paper::right_count(words::offset_of(p, j), 9);
     paper::right_count(words::deadline_of(p, j), 9);
-    paper::text(b"   ");
-    names::called(text, Kind::Node, words::sender_of(p, j), b"");
-    paper::text(b" to ");
-    names::nodes(text, words::receivers_of(p, j) as u32, b"", b" ");
+    paper::text(b"  ");
+    receivers(words::receivers_of(p, j) as u32);
     paper::end_line();
 }
 
 // A line for each message.
-pub fn messages(p: &[u32], text: &[u8])
+pub fn messages(p: &[u32])
     requires { WellFormed p.now }
 {
     let count = words::messages_of(p);
-    let width = name_width(text, count);
-    heading(width, b" bytes   period   offset deadline   from and to");
+    paper::line(b"\nmessage     id  from bytes   period   offset deadline   to nodes");
     let mut j: usize = 0;
     while j < count {
-        message(p, text, j, width);
-        j += 1;
-    }
-}
-
-// ---- what a plan leaves
-
-// Where a proposal places message j, what it leaves of its deadline, and the message's share of the bus.
-fn margin(p: &[u32], text: &[u8], w: &[u32], j: usize, width: usize)
-    requires { Member p.now j }
-{
-    if !words::gives(w, j) {
-        return;
-    }
-    let margin = margins::margin_of(p, w, j);
-    begin(p, text, j, width);
-    paper::right_count(placed::column(w, j), 7);
-    paper::right_count(placed::row(w, j), 5);
-    paper::right_count(margin.wait, 9);
-    paper::right_count(margin.frame, 7);
-    paper::right_count(margin.slack, 9);
-    paper::right_per_cent(margins::share_of(p, j), 5);
-    paper::end_line();
-}
-
-// A line for each message: where it stands, how long an instance waits, what the frame takes and what is then left of the deadline.
-pub fn margins(p: &[u32], text: &[u8], w: &[u32])
-    requires { WellFormed p.now }
-{
-    let count = words::messages_of(p);
-    let width = name_width(text, count);
-    heading(width, b" column  row     wait  frame    slack    share");
-    let mut j: usize = 0;
-    while j < count {
-        margin(p, text, w, j, width);
+        message(p, j);
         j += 1;
     }
 }
@@ -189,21 +130,21 @@ pub fn problem_words(p: &[u32], said: usize)
 }
 
 // The column and the base row of one message, and its name as a comment.
-fn placement(p: &[u32], text: &[u8], w: &[u32], j: usize)
+fn placement(p: &[u32], w: &[u32], j: usize)
     requires { Member p.now j }
 {
     if !words::gives(w, j) {
         return;
     }
-    paper::count(placed::column(w, j));
-    paper::text_count(b" ", placed::row(w, j));
-    names::number(b" # message ", j, text, Kind::Message);
+    paper::count(words::column_of(w, j));
+    paper::text_count(b" ", words::row_of(w, j));
+    paper::text_count(b" # message ", j);
     paper::text_hex(b", identifier ", words::identifier_of(p, j));
     paper::end_line();
 }
 
 // A proposal as a word list, a message a line, with the mark of its problem.
-pub fn proposal_words(p: &[u32], text: &[u8], w: &[u32], mark: u32)
+pub fn proposal_words(p: &[u32], w: &[u32], mark: u32)
     requires { WellFormed p.now }
 {
     let messages = words::messages_of(p);
@@ -211,12 +152,19 @@ pub fn proposal_words(p: &[u32], text: &[u8], w: &[u32], mark: u32)
     paper::line(b"\n# column and base row of each message");
     let mut j: usize = 0;
     while j < messages {
-        placement(p, text, w, j);
+        placement(p, w, j);
         j += 1;
     }
 }
 
 // ---- losses
+
+// How many hundredths of a per cent a figure is of the whole, to the nearest, a half up: twice as many and one, halved.
+fn share(figure: u32, whole: usize) -> usize
+    requires { 1 ≤ whole }
+{
+    (2 * wide(figure) * paper::ALL / whole + 1) / 2
+}
 
 // One figure, by its name, and its share of the whole.
 fn loss(name: &[u8], figure: u32, whole: usize)
@@ -224,7 +172,7 @@ fn loss(name: &[u8], figure: u32, whole: usize)
 {
     paper::left_text(name, 12);
     paper::right(figure, 9);
-    paper::right_per_cent(margins::share(wide(figure), whole), 6);
+    paper::right_per_cent(share(figure, whole), 6);
     paper::end_line();
 }
 
@@ -232,7 +180,7 @@ fn loss(name: &[u8], figure: u32, whole: usize)
 pub fn bus_time(t: BusTime)
     requires { 1 ≤ t.reference }
 {
-    let whole = margins::whole_of(t);
+    let whole = wide(t.reference) + wide(t.used) + wide(t.in_window) + wide(t.empty) + wide(t.gaps);
     paper::text_count(b"losses over one matrix cycle of ", whole);
     paper::end_line();
     loss(b"reference", t.reference, whole);
@@ -240,9 +188,6 @@ pub fn bus_time(t: BusTime)
     loss(b"in-window", t.in_window, whole);
     loss(b"empty", t.empty, whole);
     loss(b"gaps", t.gaps, whole);
-    paper::left_text(b"bus load", 21);
-    paper::right_per_cent(margins::load_of(t), 6);
-    paper::line(b", reference and used");
 }
 
 // ---- response times
@@ -282,8 +227,8 @@ pub fn events(e: &[u32])
 
 // ---- trigger lists
 
-// One entry: its time mark, base row and repeat, what the node does then, and with which message.
-fn entry(text: &[u8], e: &[u32])
+// One entry: its time mark, base row and repeat, what the node does then, and with which identifier.
+fn entry(e: &[u32])
     requires { entry_words ≤ length e.now }
 {
     paper::right(e[1], 6);
@@ -297,13 +242,7 @@ fn entry(text: &[u8], e: &[u32])
     } else {
         paper::text(b"  receives  ");
     }
-    let identifier = wide(e[0] % KIND_WEIGHT);
-    paper::right_hex(identifier, 0);
-    names::bracketed(
-        text,
-        Kind::Message,
-        sheet::message_of(text, identifier as u64),
-    );
+    paper::right_hex(wide(e[0] % KIND_WEIGHT), 0);
     paper::end_line();
 }
 
@@ -334,44 +273,45 @@ pub fn list_start(lists: &[u32], node: usize) -> usize
 }
 
 // The entries of one list.
-fn entries(text: &[u8], list: &[u32]) {
+fn entries(list: &[u32]) {
     let mut i: usize = 0;
     while i < list.len() / ENTRY_WORDS {
         let from = ENTRY_WORDS * i;
-        entry(text, &list[from..from + ENTRY_WORDS]);
+        entry(&list[from..from + ENTRY_WORDS]);
         i += 1;
     }
 }
 
 // The list of one node.
-fn list(text: &[u8], lists: &[u32], n: usize)
+fn list(lists: &[u32], n: usize)
     requires { (nodes ≤ length lists.now) × (n < nodes) }
 {
     let count = lists[n];
     let from = list_start(lists, n);
     let to = list_end(lists, from, count);
-    names::number(b"node ", n, text, Kind::Node);
+    paper::text(b"node ");
+    paper::count(n);
     paper::text(b", triggers: ");
     paper::number(count);
     paper::line(b"\n  mark  row repeat  what");
-    entries(text, &lists[from..to]);
+    entries(&lists[from..to]);
 }
 
 // The lists of all nodes.
-fn all_lists(text: &[u8], lists: &[u32; triggers::MOST_WORDS]) {
+fn all_lists(lists: &[u32; triggers::MOST_WORDS]) {
     let mut n: usize = 0;
     while n < NODES {
-        list(text, lists, n);
+        list(lists, n);
         paper::end_line();
         n += 1;
     }
 }
 
 // The list of one node, or of all if there is no such node.
-pub fn lists(text: &[u8], lists: &[u32; triggers::MOST_WORDS], node: usize) {
+pub fn lists(lists: &[u32; triggers::MOST_WORDS], node: usize) {
     if node < NODES {
-        list(text, lists, node);
+        list(lists, node);
     } else {
-        all_lists(text, lists);
+        all_lists(lists);
     }
 }

@@ -6,10 +6,10 @@ use Rattle.holding.proofs.show_list.Statement.{statement}
 use Rattle.holding.proofs.show_list.Tie as tie
 
 abbrev invariant-loop : tie.invariant-loop
-invariant-loop p text w list at₀ t8 t9 at = at ≤ length list
+invariant-loop p w list at₀ t8 t9 at = at ≤ length list
 
 abbrev decreases-loop : tie.decreases-loop
-decreases-loop p text w list at₀ t8 t9 at = length list - at
+decreases-loop p w list at₀ t8 t9 at = length list - at
 
 pub show-list-spec : {M : Type 1} → statement M
 show-list-spec =

@@ -1,14 +1,14 @@
 -- A turn a node.
-use Prim.Native.Nat.{◌-◌, ◌≤◌}
+use Prim.Native.Nat.{◌≤◌, ◌-◌}
 use borrow.Author.Rules.{rules}
 use Rattle.views.proofs.changes.nodes.Statement.{statement}
 use Rattle.views.proofs.changes.nodes.Tie as tie
 
 abbrev invariant-loop : tie.invariant-loop
-invariant-loop heading text old new is-wanted-same is-any₀ n₀ t8 t9 is_any n = n ≤ 16
+invariant-loop heading old new is-wanted-same is-any₀ n₀ t7 t8 is_any n = n ≤ 16
 
 abbrev decreases-loop : tie.decreases-loop
-decreases-loop heading text old new is-wanted-same is-any₀ n₀ t8 t9 is_any n = 16 - n
+decreases-loop heading old new is-wanted-same is-any₀ n₀ t7 t8 is_any n = 16 - n
 
 pub nodes-spec : {M : Type 1} → statement M
 nodes-spec =

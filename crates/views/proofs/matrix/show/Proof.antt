@@ -5,10 +5,10 @@ use Rattle.views.proofs.matrix.show.Statement.{statement}
 use Rattle.views.proofs.matrix.show.Tie as tie
 
 abbrev invariant-loop : tie.invariant-loop
-invariant-loop p text w kept form columns width size from₀ from = Unit {0}
+invariant-loop p w kept form columns size from₀ from = Unit {0}
 
 abbrev decreases-loop : tie.decreases-loop
-decreases-loop p text w kept form columns width size from₀ from = columns - from
+decreases-loop p w kept form columns size from₀ from = columns - from
 
 pub show-spec : {M : Type 1} → statement M
 show-spec =
@@ -16,11 +16,6 @@ show-spec =
     (tie.spec
     invariant-loop
     decreases-loop
-    (λ c κs. search rules)
-    (λ c κs. search rules)
-    (λ c κs. search rules)
-    (λ c κs. search rules)
-    (λ c κs. search rules)
     (λ c κs. search rules)
     (λ c κs. search rules)
     (λ c. search rules)

@@ -5,10 +5,10 @@ use Rattle.views.proofs.matrix.show_cells.Statement.{statement}
 use Rattle.views.proofs.matrix.show_cells.Tie as tie
 
 abbrev invariant-loop : tie.invariant-loop
-invariant-loop p text w kept r block c₀ c = Unit {0}
+invariant-loop p w kept r from to c₀ c = Unit {0}
 
 abbrev decreases-loop : tie.decreases-loop
-decreases-loop p text w kept r block c₀ c = block.to - c
+decreases-loop p w kept r from to c₀ c = to - c
 
 pub show-cells-spec : {M : Type 1} → statement M
 show-cells-spec =
@@ -17,7 +17,6 @@ show-cells-spec =
     invariant-loop
     decreases-loop
     (λ c. search rules)
-    (λ c κs. search rules)
     (λ c κs. search rules)
     (λ c. search rules)
     (λ c. search rules)

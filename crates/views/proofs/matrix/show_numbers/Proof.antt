@@ -5,10 +5,10 @@ use Rattle.views.proofs.matrix.show_numbers.Statement.{statement}
 use Rattle.views.proofs.matrix.show_numbers.Tie as tie
 
 abbrev invariant-loop : tie.invariant-loop
-invariant-loop block c₀ c = Unit {0}
+invariant-loop from to c₀ c = Unit {0}
 
 abbrev decreases-loop : tie.decreases-loop
-decreases-loop block c₀ c = block.to - c
+decreases-loop from to c₀ c = to - c
 
 pub show-numbers-spec : {M : Type 1} → statement M
 show-numbers-spec =

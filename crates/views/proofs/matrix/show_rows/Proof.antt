@@ -1,14 +1,14 @@
--- A turn a row.
-use Prim.Native.Nat.{◌-◌, ◌≤◌}
+-- A turn a basic cycle.
+use Prim.Native.Nat.{◌≤◌, ◌-◌}
 use borrow.Author.Rules.{rules}
 use Rattle.views.proofs.matrix.show_rows.Statement.{statement}
 use Rattle.views.proofs.matrix.show_rows.Tie as tie
 
 abbrev invariant-loop : tie.invariant-loop
-invariant-loop p text w kept form block rows r₀ t9 r = r ≤ rows
+invariant-loop p w kept form from to rows r₀ t7 r = r ≤ rows
 
 abbrev decreases-loop : tie.decreases-loop
-decreases-loop p text w kept form block rows r₀ t9 r = rows - r
+decreases-loop p w kept form from to rows r₀ t7 r = rows - r
 
 pub show-rows-spec : {M : Type 1} → statement M
 show-rows-spec =

@@ -5,10 +5,10 @@ use Rattle.views.proofs.matrix.show_starts.Statement.{statement}
 use Rattle.views.proofs.matrix.show_starts.Tie as tie
 
 abbrev invariant-loop : tie.invariant-loop
-invariant-loop p block c₀ c = Unit {0}
+invariant-loop p from to c₀ c = Unit {0}
 
 abbrev decreases-loop : tie.decreases-loop
-decreases-loop p block c₀ c = block.to - c
+decreases-loop p from to c₀ c = to - c
 
 pub show-starts-spec : {M : Type 1} → statement M
 show-starts-spec =

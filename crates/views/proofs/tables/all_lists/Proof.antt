@@ -1,14 +1,14 @@
 -- A turn a node.
-use Prim.Native.Nat.{◌-◌, ◌≤◌}
+use Prim.Native.Nat.{◌≤◌, ◌-◌}
 use borrow.Author.Rules.{rules}
 use Rattle.views.proofs.tables.all_lists.Statement.{statement}
 use Rattle.views.proofs.tables.all_lists.Tie as tie
 
 abbrev invariant-loop : tie.invariant-loop
-invariant-loop text lists n₀ n = n ≤ 16
+invariant-loop lists n₀ n = n ≤ 16
 
 abbrev decreases-loop : tie.decreases-loop
-decreases-loop text lists n₀ n = 16 - n
+decreases-loop lists n₀ n = 16 - n
 
 pub all-lists-spec : {M : Type 1} → statement M
 all-lists-spec =

@@ -1,5 +1,5 @@
--- A turn an entry of four words.
-use Prim.Native.Nat.{◌-◌, ◌/◌, ◌≤◌}
+-- Invariant: as many whole entries are behind as turns; a turn is an entry of four words.
+use Prim.Native.Nat.{◌≤◌, ◌-◌, ◌/◌}
 use lib.ListN.{length}
 use Rattle.triggers.specs.Lists.{entry_words}
 use borrow.Author.Rules.{rules}
@@ -7,10 +7,10 @@ use Rattle.views.proofs.tables.entries.Statement.{statement}
 use Rattle.views.proofs.tables.entries.Tie as tie
 
 abbrev invariant-loop : tie.invariant-loop
-invariant-loop text list i₀ i = i ≤ length list / entry_words
+invariant-loop list i₀ i = i ≤ length list / entry_words
 
 abbrev decreases-loop : tie.decreases-loop
-decreases-loop text list i₀ i = length list / entry_words - i
+decreases-loop list i₀ i = length list / entry_words - i
 
 pub entries-spec : {M : Type 1} → statement M
 entries-spec =

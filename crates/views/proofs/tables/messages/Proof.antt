@@ -1,16 +1,16 @@
 -- A turn a message.
-use Prim.Native.Nat.{◌-◌, ◌≤◌}
-use borrow.Author.Rules.{rules}
+use Prim.Native.Nat.{◌≤◌, ◌-◌}
 use native.Mathlib.Omega.{arith}
 use Rattle.rules.proofs.Bounds.{member}
+use borrow.Author.Rules.{rules}
 use Rattle.views.proofs.tables.messages.Statement.{statement}
 use Rattle.views.proofs.tables.messages.Tie as tie
 
 abbrev invariant-loop : tie.invariant-loop
-invariant-loop p text count width j₀ j = j ≤ count
+invariant-loop p count j₀ j = j ≤ count
 
 abbrev decreases-loop : tie.decreases-loop
-decreases-loop p text count width j₀ j = count - j
+decreases-loop p count j₀ j = count - j
 
 pub messages-spec : {M : Type 1} → statement M
 messages-spec =
@@ -19,11 +19,10 @@ messages-spec =
     invariant-loop
     decreases-loop
     (λ c κs. search rules)
-    (λ c κs. search rules)
     (λ c. search rules)
     (λ c κs. search rules)
     (λ c. search rules)
-    (λ c κs. member (search rules) (omega arith))
+    (λ c κs. member c.before.before.before.before.before.before.requires (omega arith))
     (λ c. search rules)
     (λ c. search rules)
     (λ c. search rules)

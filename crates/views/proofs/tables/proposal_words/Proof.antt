@@ -1,16 +1,16 @@
 -- A turn a message.
-use Prim.Native.Nat.{◌-◌, ◌≤◌}
-use borrow.Author.Rules.{rules}
+use Prim.Native.Nat.{◌≤◌, ◌-◌}
 use native.Mathlib.Omega.{arith}
 use Rattle.rules.proofs.Bounds.{member}
+use borrow.Author.Rules.{rules}
 use Rattle.views.proofs.tables.proposal_words.Statement.{statement}
 use Rattle.views.proofs.tables.proposal_words.Tie as tie
 
 abbrev invariant-loop : tie.invariant-loop
-invariant-loop p text w mark messages j₀ j = j ≤ messages
+invariant-loop p w mark messages j₀ j = j ≤ messages
 
 abbrev decreases-loop : tie.decreases-loop
-decreases-loop p text w mark messages j₀ j = messages - j
+decreases-loop p w mark messages j₀ j = messages - j
 
 pub proposal-words-spec : {M : Type 1} → statement M
 proposal-words-spec =
@@ -24,7 +24,7 @@ proposal-words-spec =
     (λ c. search rules)
     (λ c κs. search rules)
     (λ c. search rules)
-    (λ c κs. member (search rules) (omega arith))
+    (λ c κs. member c.before.before.before.before.before.before.before.before.before.requires (omega arith))
     (λ c. search rules)
     (λ c. search rules)
     (λ c. search rules)

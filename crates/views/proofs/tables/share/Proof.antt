@@ -1,0 +1,15 @@
+-- A quotient is at most what is divided, so that one more fits.
+use Prim.Native.Nat.{◌*◌}
+use native.Mathlib.Nat.{div-le_self}
+use native.Mathlib.Omega.{arith}
+use borrow.Author.Rules.{rules}
+use Rattle.views.proofs.tables.share.Statement.{statement}
+use Rattle.views.proofs.tables.share.Tie as tie
+
+add-result : tie.Need-overflow-add-result
+add-result c =
+    let figure = c.wide.result in
+    omega (arith, div-le_self (2 * figure * 10000) c.before.args.whole)
+
+pub share-spec : {M : Type 1} → statement M
+share-spec = tie.close (tie.spec (λ c κs. search rules) (λ c. search rules) (λ c. search rules) (λ c. search rules) add-result (λ c. search rules))
