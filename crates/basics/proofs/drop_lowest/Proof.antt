@@ -10,5 +10,5 @@ use Rattle.basics.proofs.drop_lowest.Tie as tie
 returns : tie.Need-returns
 returns c = let x = c.args.x in (dropped x c.requires c.ranges.x.fits, omega (arith, and_le_r x (x - 1)))
 
-pub drop-lowest-spec : {M : Type 1} → statement M
-drop-lowest-spec = tie.close (tie.spec (λ c. search rules) returns)
+pub drop_lowest_spec : {M : Type 1} → statement M
+drop_lowest_spec = tie.close (tie.spec (λ c. search rules) returns)

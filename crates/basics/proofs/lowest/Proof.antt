@@ -7,5 +7,5 @@ use Rattle.basics.proofs.lowest.Tie as tie
 returns : tie.Need-returns
 returns c = (refl, lowest-below 32 _ c.requires c.ranges.x.fits)
 
-pub lowest-spec : {M : Type 1} → statement M
-lowest-spec = tie.close (tie.spec returns)
+pub lowest_spec : {M : Type 1} → statement M
+lowest_spec = tie.close (tie.spec returns)
