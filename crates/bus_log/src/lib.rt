@@ -1,4 +1,6 @@
 // What was on the wire held against the plan, and the list of sends that is due.
+#![tactic(auto)]
+
 pub mod answer;
 
 ghost use Rattle.std.specs.Prelude.{◌≡◌, ◌∷◌, ◌*◌, ◌%◌, ◌<◌, ◌≤◌, length, drop};

@@ -1,4 +1,6 @@
 // The table of cells: which message starts in each.
+#![tactic(auto)]
+
 ghost use Rattle.std.specs.Prelude.{◌≡◌, ◌<◌, ◌≤◌, length};
 ghost use Rattle.rules.specs.Problem.{most_rows, most_columns, messages as messageCount};
 ghost use Rattle.proposal.specs.Accepted.{Accepted};

@@ -1,4 +1,6 @@
 // The calls for programs in other languages: each hands over the answer of its Rattle call as eight words. A slice is a pointer and a length.
+#![tactic(auto)]
+
 ghost use Rattle.std.specs.Prelude.{◌≡◌, ◌<◌};
 ghost use Rattle.rules.specs.Paper.{done, refused};
 ghost use Rattle.reader.specs.Promise.{Reading};

@@ -1,4 +1,6 @@
 // Is this proposal acceptable, and where does the bus time go?
+#![tactic(auto)]
+
 pub mod answer;
 
 ghost use Rattle.judge.specs.Promise.{Judging};

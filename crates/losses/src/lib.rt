@@ -1,4 +1,6 @@
 // Where the bus time of one matrix cycle goes.
+#![tactic(auto)]
+
 ghost use Rattle.std.specs.Prelude.{◌≡◌, [], ◌∷◌, ◌*◌, ◌<◌, ◌≤◌};
 ghost use Rattle.rules.specs.Problem.{WellFormed, rows, columns as columnCount, messages as messageCount};
 ghost use Rattle.rules.specs.declared.Fault.TheVariants.{Clear};

@@ -1,4 +1,6 @@
 // The planner: the least acceptable proposal, of all or of those that keep some placements, or that there is none.
+#![tactic(auto)]
+
 pub mod answer;
 
 ghost use Rattle.std.specs.Prelude.{◌≡◌, ◌<◌, ◌≤◌};

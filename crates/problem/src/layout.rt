@@ -6,7 +6,7 @@ ghost use Rattle.problem.specs.File.{bytes_for};
 use rules::words;
 
 // Version 1, and version 2: its columns have a kind, and its identifiers four bytes.
-#[derive(Drop)]
+#[derive(Clone, Copy)]
 pub enum Layout {
     One,
     Two,

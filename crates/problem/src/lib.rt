@@ -1,4 +1,5 @@
 // What reader and writer share of the file: its versions, where the numbers of its header stand, and the words that callers see.
+#![tactic(auto)]
 
 pub mod layout;
 pub mod recast;

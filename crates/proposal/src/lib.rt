@@ -1,4 +1,6 @@
 // What is wrong with a proposal, which judge, lists and logs all test so, and with placements to keep.
+#![tactic(auto)]
+
 ghost use Rattle.std.specs.Prelude.{◌≡◌, ◌≤◌, length};
 ghost use Rattle.rules.specs.Problem.{WellFormed, most_words, messages as messageCount, proposal_words, Gives};
 ghost use Rattle.rules.specs.Refusal.{first_fault};

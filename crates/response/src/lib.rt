@@ -1,4 +1,6 @@
 // Response times of events on a plain CAN bus.
+#![tactic(auto)]
+
 mod busy;
 mod demand;
 mod events;

@@ -1,4 +1,6 @@
 // A problem file moved to the other version: up to version 2, and back to version 1.
+#![tactic(auto)]
+
 ghost use Rattle.std.specs.Prelude.{◌≡◌, ◌≤◌, length};
 ghost use Rattle.rules.specs.Problem.{most_words};
 ghost use Rattle.rules.specs.Refusal.{first_fault};

@@ -1,4 +1,6 @@
 // The rules of a problem's words, tested: those of the header, and those of the columns, messages and nodes.
+#![tactic(auto)]
+
 ghost use Rattle.std.specs.Prelude.{◌≡◌, ◌+◌, ◌<◌, ◌≤◌, eqb, length};
 ghost use Rattle.basics.specs.Bits.{bit};
 ghost use Rattle.basics.specs.Sums.{only};

@@ -7,11 +7,11 @@ use Rattle.problem.specs.Layout.{layout_of}
 use Rattle.problem.proofs.layout.layout_of.Statement.{statement}
 use Rattle.problem.proofs.layout.layout_of.Tie as tie
 
-returns : tie.Need-returns
-returns c = sym (ap layout_of c.if1.true)
+returns : tie.Need-returns-then-v-eq1
+returns c = sym (ap layout_of c.if-v-eq1.true)
 
-returns-2 : tie.Need-returns-2
-returns-2 c = sym (ap (λ (b : Bool). cond b One Two) (ne_eqb _ 1 c.if1.false))
+returns-2 : tie.Need-returns
+returns-2 c = sym (ap (λ (b : Bool). cond b One Two) (ne_eqb _ 1 c.if-v-eq1.false))
 
-pub layout-of-spec : {M : Type 1} → statement M
-layout-of-spec = tie.close (tie.spec returns returns-2)
+pub layout_of_spec : {M : Type 1} → statement M
+layout_of_spec = tie.close (tie.spec returns returns-2)

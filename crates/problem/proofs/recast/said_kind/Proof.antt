@@ -5,8 +5,8 @@ use borrow.Author.Rules.{rules}
 use Rattle.problem.proofs.recast.said_kind.Statement.{statement}
 use Rattle.problem.proofs.recast.said_kind.Tie as tie
 
-returns : tie.Need-returns
-returns c = sym (get_or-eq_default c.before.args.from.now 0 c.if1.true)
+returns : tie.Need-returns-then-from-le-KIND
+returns c = sym (get_or-eq_default c.before.args.from.now 0 c.if-from-le-KIND.true)
 
-pub said-kind-spec : {M : Type 1} → statement M
-said-kind-spec = tie.close (tie.spec returns (λ c. search rules) (λ c. search rules))
+pub said_kind_spec : {M : Type 1} → statement M
+said_kind_spec = tie.close (tie.spec returns (λ c. search rules) (λ c. search rules))
