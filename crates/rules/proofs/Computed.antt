@@ -12,7 +12,7 @@ use borrow.Author.Tests.{eq-eqb, ne_eqb, not-true, not-false}
 use Rattle.basics.proofs.Tests.{true-T, parts}
 use Rattle.rules.specs.declared.Fault.TheVariants.{Clear, Bad}
 use Rattle.rules.specs.declared.Refusal.TheVariants.{Range, Width, Late}
-use Rattle.rules.specs.Problem.{column_at, message_at, cycle, columns, messages, start, width, field, period, offset, deadline, lasts, repeat, column, row, Placed, WellFormed}
+use Rattle.rules.specs.Problem.{column_at, message_at, cycle, columns, start, width, field, period, offset, deadline, lasts, repeat, column, row, Placed, WellFormed}
 use Rattle.rules.specs.Tests.{in_range, fits, wait, timely, common, meets, own_fault}
 use Rattle.rules.specs.Parts.{Member, Start, Width as WidthIs, Period, Repeat, First, Wait}
 use Rattle.rules.proofs.Digits.{mod-once}

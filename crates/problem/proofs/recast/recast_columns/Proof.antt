@@ -25,8 +25,8 @@ read : (c : tie.In-loop-c invariant-loop decreases-loop) → let args = c.before
 read c = let args = c.before.before.before.before.args in step args.a c.before.loop-c.c args.k (length args.part.now) (omega arith) (omega arith) (omega arith) (omega arith)
 
 written : (c : tie.In-loop-c invariant-loop decreases-loop) → let args = c.before.before.before.before.args in let i = c.before.loop-c.c in
-    (args.b * i + args.b ≤ 1280) × (args.b * i + args.b ≤ length args.out-1.now)
-written c = let args = c.before.before.before.before.args in step args.b c.before.loop-c.c args.k (length args.out-1.now) (omega arith) (omega arith) (omega arith) (omega arith)
+    (args.b * i + args.b ≤ 1280) × (args.b * i + args.b ≤ length args.out.now)
+written c = let args = c.before.before.before.before.args in step args.b c.before.loop-c.c args.k (length args.out.now) (omega arith) (omega arith) (omega arith) (omega arith)
 
 mul-from : tie.Need-overflow_mul-from invariant-loop decreases-loop
 mul-from c = omega (arith, (read c).0)
@@ -34,22 +34,22 @@ mul-from c = omega (arith, (read c).0)
 mul-to : tie.Need-overflow_mul-to invariant-loop decreases-loop
 mul-to c = omega (arith, (written c).0)
 
-add-recast-column : tie.Need-overflow-add-recast-column invariant-loop decreases-loop
+add-recast-column : tie.Need-overflow_add-from invariant-loop decreases-loop
 add-recast-column c = omega (arith, (read c).0)
 
-mul-recast-column : tie.Need-overflow-mul-recast-column invariant-loop decreases-loop
+mul-recast-column : tie.Need-offset_bounds-part-from invariant-loop decreases-loop
 mul-recast-column c = omega (arith, (read c).0)
 
 part-recast-column-end : tie.Need-slice_bounds-recast_column-end invariant-loop decreases-loop
 part-recast-column-end c = (read c).1
 
-add-recast-column-2 : tie.Need-overflow-add-recast-column-2 invariant-loop decreases-loop
+add-recast-column-2 : tie.Need-overflow_add-to invariant-loop decreases-loop
 add-recast-column-2 c = omega (arith, (written c.before).0)
 
-mul-recast-column-2 : tie.Need-overflow-mul-recast-column-2 invariant-loop decreases-loop
+mul-recast-column-2 : tie.Need-offset_bounds-out-to invariant-loop decreases-loop
 mul-recast-column-2 c = omega (arith, (written c.before).0)
 
-part-recast-column-end-2 : tie.Need-slice-bounds-recast-column-end-2 invariant-loop decreases-loop
+part-recast-column-end-2 : tie.Need-slice_bounds-recast_column-end-in-loop-c invariant-loop decreases-loop
 part-recast-column-end-2 c = omega (arith, c.before.before.loop-c.invariant.1.long, (written c.before).1)
 
 recast-column-requires : tie.Need-recast_column-requires invariant-loop decreases-loop
@@ -66,7 +66,7 @@ loop-again c =
     let args = at-loop.before.before.before.args in
     let parts = turned-parts at.c args.k at.invariant.1 (omega arith) (omega arith) (omega arith) in
     let piece = take (args.a * at.c + args.a - args.a * at.c) (drop (args.a * at.c) args.part.now) in
-    (search rules, turned_more (length_front args.b) at.c at.invariant.1 (call.ensures ∙ ap (λ (n : ℕ). front n piece) parts.1) call.auto.1.0)
+    (search rules, turned_more (length_front args.b) at.c at.invariant.1 (call.ensures ∙ ap (λ (n : ℕ). front n piece) parts.1) call.auto.to)
 
 returns : tie.Need-returns invariant-loop decreases-loop
 returns c = turned-all c.before.loop-c.invariant.1 (omega arith)
