@@ -12,10 +12,10 @@ returns c =
     let at-kind = at_wide.before.before.before in
     let at_width = at-kind.before in
     let start = at_width.before.before.before in
-    rw (c.end_of_lem.ensures, c.before.long2.ensures.0, at_wide.wide.ensures.0, at_wide.before.before.long.ensures.0, at-kind.kind-in.ensures, at_width.before.start-in.ensures, at_width.width-in.ensures, start.requires.from_is, add-one start.args.c)
+    rw (c.end_of.ensures, c.before.long-2.ensures.0, at_wide.wide.ensures.0, at_wide.before.before.long.ensures.0, at-kind.kind_in.ensures, at_width.before.start_in-start.ensures, at_width.width_in-width.ensures, start.requires.from_is, add-one start.args.c)
 
-pub column-wrong-spec : {M : Type 1} → statement M
-column-wrong-spec =
+pub column_wrong_spec : {M : Type 1} → statement M
+column_wrong_spec =
     tie.close
     (tie.spec
     (λ c κs. search rules)

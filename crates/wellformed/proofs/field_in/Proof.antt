@@ -6,7 +6,7 @@ use Rattle.wellformed.proofs.field_in.Statement.{statement}
 use Rattle.wellformed.proofs.field_in.Tie as tie
 
 returns : tie.Need-returns
-returns c = let start = c.before.before.before in field-here start.args.i start.requires.0 c.before.message-at.ensures refl
+returns c = let start = c.before.before.before in field-here start.args.i start.requires.0 c.before.message_at.ensures refl
 
-pub field-in-spec : {M : Type 1} → statement M
-field-in-spec = tie.close (tie.spec (λ c κs. search rules) (λ c. search rules) (λ c. search rules) (λ c. search rules) returns)
+pub field_in_spec : {M : Type 1} → statement M
+field_in_spec = tie.close (tie.spec (λ c κs. search rules) (λ c. search rules) (λ c. search rules) (λ c. search rules) returns)

@@ -17,28 +17,28 @@ returns c =
     let of-rows = of-cycle.before.before in
     rw (
       c.header_at.ensures,
-      joined.first6.ensures,
-      of-rows.wrong-at.ensures,
-      of-rows.before.is-row-count.ensures,
-      joined.before.first5.ensures,
-      of-cycle.wrong-at2.ensures,
-      of-cycle.before.is-outside.ensures,
-      joined.before.before.first4.ensures,
-      of-window.wrong-at3.ensures,
-      of-window.before.is-outside2.ensures,
-      joined.before.before.before.first3.ensures,
-      of-reference.wrong-at4.ensures,
-      joined.before.before.before.before.first2.ensures,
-      of-limit.wrong-at5.ensures,
-      of-limit.before.is-outside3.ensures,
+      joined.first-4.ensures,
+      of-rows.wrong_at-of_rows.ensures,
+      of-rows.before.is_row_count.ensures,
+      joined.before.first-3.ensures,
+      of-cycle.wrong_at-of_cycle.ensures,
+      of-cycle.before.is_outside.ensures,
+      joined.before.before.first-of_reference_message.ensures,
+      of-window.wrong_at-of_window.ensures,
+      of-window.before.is_outside-2.ensures,
+      joined.before.before.before.first-2.ensures,
+      of-reference.wrong_at-of_reference.ensures,
+      joined.before.before.before.before.first-of_counts.ensures,
+      of-limit.wrong_at-of_limit.ensures,
+      of-limit.before.is_outside-3.ensures,
       joined.before.before.before.before.before.first.ensures,
-      of-columns.wrong-at6.ensures,
-      of-columns.before.is-outside4.ensures,
-      of-messages.wrong-at7.ensures,
+      of-columns.wrong_at-of_columns.ensures,
+      of-columns.before.is_outside-4.ensures,
+      of-messages.wrong_at-of_messages.ensures,
     )
 
-pub header-fault-spec : {M : Type 1} → statement M
-header-fault-spec =
+pub header_fault_spec : {M : Type 1} → statement M
+header_fault_spec =
     tie.close
     (tie.spec
     (λ c. search rules)

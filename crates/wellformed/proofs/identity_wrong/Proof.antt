@@ -10,16 +10,16 @@ returns c =
     let at_size = c.before.before in
     let at-receivers = at_size.before.before in
     rw (
-      c.is-repeated.ensures,
-      c.before.is-receiver.ensures,
-      at_size.field-in4.ensures,
-      at-receivers.field-in3.ensures,
-      at-receivers.before.field-in2.ensures,
-      at-receivers.before.before.field_in.ensures,
+      c.is_repeated.ensures,
+      c.before.is_receiver.ensures,
+      at_size.field_in.ensures,
+      at-receivers.field_in-receivers.ensures,
+      at-receivers.before.field_in-sender.ensures,
+      at-receivers.before.before.field_in-id.ensures,
     )
 
-pub identity-wrong-spec : {M : Type 1} → statement M
-identity-wrong-spec =
+pub identity_wrong_spec : {M : Type 1} → statement M
+identity_wrong_spec =
     tie.close
     (tie.spec
     (λ c κs. search rules)

@@ -10,36 +10,36 @@ use borrow.Author.Rules.{rules}
 use Rattle.wellformed.proofs.is_on_grid.Statement.{statement}
 use Rattle.wellformed.proofs.is_on_grid.Tie as tie
 
-abbrev invariant-loop : tie.invariant-loop
+abbrev invariant-loop : tie.invariant-loop-k
 invariant-loop rows cycle period power₀ k₀ power k = (k ≤ 7) × (power ≡ 2 ^ k) × ((i : ℕ) → i < k → leb (2 ^ i) rows && eqb period (cycle * 2 ^ i) ≡ false)
 
-abbrev decreases-loop : tie.decreases-loop
+abbrev decreases-loop : tie.decreases-loop-k
 decreases-loop rows cycle period power₀ k₀ power k = 7 - k
 
-loop-holds : tie.Need-loop-init invariant-loop decreases-loop
+loop-holds : tie.Need-loop-k-init invariant-loop decreases-loop
 loop-holds c = (search rules, refl, below_none _)
 
-mul-if1 : tie.Need-overflow-mul-if1 invariant-loop decreases-loop
+mul-if1 : tie.Need-overflow_mul-cycle invariant-loop decreases-loop
 mul-if1 c =
-    let h = power_small _ _ c.loop-test.true c.before.loop.invariant.1 in
-    omega (arith, product_small c.before.before.args.cycle c.before.loop.power (omega arith) h)
+    let h = power_small _ _ c.loop-k-test.true c.before.loop-k.invariant.1 in
+    omega (arith, product_small c.before.before.args.cycle c.before.loop-k.power (omega arith) h)
 
-returns : tie.Need-returns invariant-loop decreases-loop
-returns c = grid-found _ _ _ _ _ (omega arith) c.before.before.loop.invariant.1 c.if1.true
+returns : tie.Need-returns-then-power-rows invariant-loop decreases-loop
+returns c = grid-found _ _ _ _ _ (omega arith) c.before.before.loop-k.invariant.1 c.if-power-rows.true
 
-mul_power : tie.Need-overflow-mul-power invariant-loop decreases-loop
-mul_power c = let h = power_small _ _ c.before.loop-test.true c.before.before.loop.invariant.1 in omega arith
+mul_power : tie.Need-overflow_mul-power invariant-loop decreases-loop
+mul_power c = let h = power_small _ _ c.before.loop-k-test.true c.before.before.loop-k.invariant.1 in omega arith
 
-loop-again : tie.Need-loop-preserved invariant-loop decreases-loop
+loop-again : tie.Need-loop-k-preserved invariant-loop decreases-loop
 loop-again c =
-    let at = c.before.before.loop in
-    (search rules, power-next _ _ at.invariant.1, below_more _ _ at.invariant.2 (grid-not _ _ _ _ _ at.invariant.1 c.if1.false))
+    let at = c.before.before.loop-k in
+    (search rules, power-next _ _ at.invariant.1, below_more _ _ at.invariant.2 (grid-not _ _ _ _ _ at.invariant.1 c.if-power-rows.false))
 
-returns-2 : tie.Need-returns-2 invariant-loop decreases-loop
-returns-2 c = grid-none _ _ _ (λ i l. c.before.loop.invariant.2 i (omega arith))
+returns-2 : tie.Need-returns invariant-loop decreases-loop
+returns-2 c = grid-none _ _ _ (λ i l. c.before.loop-k.invariant.2 i (omega arith))
 
-pub is-on-grid-spec : {M : Type 1} → statement M
-is-on-grid-spec =
+pub is_on_grid_spec : {M : Type 1} → statement M
+is_on_grid_spec =
     tie.close
     (tie.spec
     invariant-loop

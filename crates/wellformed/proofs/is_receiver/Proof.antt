@@ -5,11 +5,11 @@ use borrow.Author.Rules.{rules}
 use Rattle.wellformed.proofs.is_receiver.Statement.{statement}
 use Rattle.wellformed.proofs.is_receiver.Tie as tie
 
-returns : tie.Need-returns
+returns : tie.Need-returns-then-node-ge32
 returns c = no_digit _ _ (omega arith) (omega arith)
 
-returns-2 : tie.Need-returns-2
-returns-2 c = c.has-bit.ensures
+returns-2 : tie.Need-returns
+returns-2 c = c.has_bit.ensures
 
-pub is-receiver-spec : {M : Type 1} → statement M
-is-receiver-spec = tie.close (tie.spec returns (λ c κs. search rules) returns-2)
+pub is_receiver_spec : {M : Type 1} → statement M
+is_receiver_spec = tie.close (tie.spec returns (λ c κs. search rules) returns-2)

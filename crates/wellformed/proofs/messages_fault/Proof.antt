@@ -24,34 +24,34 @@ messages-again : tie.Need-messages-preserved invariant-messages decreases-messag
 messages-again c =
     let at-identity-wrong = c.before.before.before in
     let at-messages = at-identity-wrong.before.before in
-    let identity = sym at-identity-wrong.identity-wrong.ensures ∙ c.before.before.if2.false in
-    let timing = sym c.before.timing-wrong.ensures ∙ c.if3.false in
+    let identity = sym at-identity-wrong.identity_wrong.ensures ∙ c.before.before.if-identity_wrong.false in
+    let timing = sym c.before.timing_wrong.ensures ∙ c.if-timing_wrong.false in
     (search rules, below_more _ _ at-messages.messages.invariant.1 (message-clear _ _ identity timing))
 
-returns : tie.Need-returns invariant-messages decreases-messages
+returns : tie.Need-returns-then-m-j invariant-messages decreases-messages
 returns c = sym (first-clear _ _ (λ i l. c.before.messages.invariant.1 i (omega arith)))
 
-returns-2 : tie.Need-returns-2 invariant-messages decreases-messages
+returns-2 : tie.Need-returns-then-identity_wrong invariant-messages decreases-messages
 returns-2 c =
     let at-messages = c.before.before.before in
-    sym (first-at _ _ _ _ (omega arith) at-messages.messages.invariant.1 (message-identity _ _ (sym c.before.identity-wrong.ensures ∙ c.if2.true)))
+    sym (first-at _ _ _ _ (omega arith) at-messages.messages.invariant.1 (message-identity _ _ (sym c.before.identity_wrong.ensures ∙ c.if-identity_wrong.true)))
 
-returns-3 : tie.Need-returns-3 invariant-messages decreases-messages
+returns-3 : tie.Need-returns-then-timing_wrong invariant-messages decreases-messages
 returns-3 c =
     let at-identity-wrong = c.before.before.before in
     let at-messages = at-identity-wrong.before.before in
-    let identity = sym at-identity-wrong.identity-wrong.ensures ∙ c.before.before.if2.false in
-    let timing = sym c.before.timing-wrong.ensures ∙ c.if3.true in
+    let identity = sym at-identity-wrong.identity_wrong.ensures ∙ c.before.before.if-identity_wrong.false in
+    let timing = sym c.before.timing_wrong.ensures ∙ c.if-timing_wrong.true in
     sym (first-at _ _ _ _ (omega arith) at-messages.messages.invariant.1 (message-timing _ _ identity timing))
 
-identity-wrong-requires : tie.Need-identity-wrong-requires invariant-messages decreases-messages
+identity-wrong-requires : tie.Need-identity_wrong-requires invariant-messages decreases-messages
 identity-wrong-requires c κs = has-message c.before.before.before.requires (omega arith)
 
-timing-wrong-requires : tie.Need-timing-wrong-requires invariant-messages decreases-messages
+timing-wrong-requires : tie.Need-timing_wrong-requires invariant-messages decreases-messages
 timing-wrong-requires c κs = has-message c.before.before.before.before.before.requires (omega arith)
 
-pub messages-fault-spec : {M : Type 1} → statement M
-messages-fault-spec =
+pub messages_fault_spec : {M : Type 1} → statement M
+messages_fault_spec =
     tie.close
     (tie.spec
     invariant-messages

@@ -12,30 +12,30 @@ use borrow.Author.Rules.{rules}
 use Rattle.wellformed.proofs.nodes_fault.Statement.{statement}
 use Rattle.wellformed.proofs.nodes_fault.Tie as tie
 
-abbrev invariant-loop : tie.invariant-loop
+abbrev invariant-loop : tie.invariant-loop-n
 invariant-loop words k m n₀ n = (n ≤ nodes) × ((i : ℕ) → i < n → node_fault words i ≡ Clear)
 
-abbrev decreases-loop : tie.decreases-loop
+abbrev decreases-loop : tie.decreases-loop-n
 decreases-loop words k m n₀ n = nodes - n
 
-loop-holds : tie.Need-loop-init invariant-loop decreases-loop
+loop-holds : tie.Need-loop-n-init invariant-loop decreases-loop
 loop-holds c = (search rules, below_none _)
 
-returns : tie.Need-returns invariant-loop decreases-loop
+returns : tie.Need-returns-then-words-triggers_of invariant-loop decreases-loop
 returns c =
     let at-loop = c.before.before.before.before in
-    sym (first-at _ _ _ _ (omega arith) at-loop.loop.invariant.1 (node-bad _ _ _ c.before.triggers-of.ensures c.if1.true))
+    sym (first-at _ _ _ _ (omega arith) at-loop.loop-n.invariant.1 (node-bad _ _ _ c.before.triggers_of.ensures c.if-words-triggers_of.true))
 
-loop-again : tie.Need-loop-preserved invariant-loop decreases-loop
+loop-again : tie.Need-loop-n-preserved invariant-loop decreases-loop
 loop-again c =
     let at-loop = c.before.before.before.before in
-    (search rules, below_more _ _ at-loop.loop.invariant.1 (node-clear _ _ _ c.before.triggers-of.ensures c.if1.false))
+    (search rules, below_more _ _ at-loop.loop-n.invariant.1 (node-clear _ _ _ c.before.triggers_of.ensures c.if-words-triggers_of.false))
 
-returns-2 : tie.Need-returns-2 invariant-loop decreases-loop
-returns-2 c = sym (first-clear _ _ (λ i l. c.before.loop.invariant.1 i (omega arith)))
+returns-2 : tie.Need-returns invariant-loop decreases-loop
+returns-2 c = sym (first-clear _ _ (λ i l. c.before.loop-n.invariant.1 i (omega arith)))
 
-pub nodes-fault-spec : {M : Type 1} → statement M
-nodes-fault-spec =
+pub nodes_fault_spec : {M : Type 1} → statement M
+nodes_fault_spec =
     tie.close
     (tie.spec
     invariant-loop

@@ -8,10 +8,10 @@ returns : tie.Need-returns
 unfolding timing_wrong
 returns c =
     let at-deadline = c.before.before.before in
-    rw (c.is-on-grid.ensures, at-deadline.before.before.field_in.ensures, at-deadline.before.field-in2.ensures, at-deadline.field-in3.ensures)
+    rw (c.is_on_grid.ensures, at-deadline.before.before.field_in-period.ensures, at-deadline.before.field_in-offset.ensures, at-deadline.field_in-deadline.ensures)
 
-pub timing-wrong-spec : {M : Type 1} → statement M
-timing-wrong-spec =
+pub timing_wrong_spec : {M : Type 1} → statement M
+timing_wrong_spec =
     tie.close
     (tie.spec
     (λ c κs. search rules)

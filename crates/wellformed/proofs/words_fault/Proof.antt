@@ -5,31 +5,31 @@ use borrow.Author.Rules.{rules}
 use Rattle.wellformed.proofs.words_fault.Statement.{statement}
 use Rattle.wellformed.proofs.words_fault.Tie as tie
 
-returns : tie.Need-returns
+returns : tie.Need-returns-in_default
 returns c =
-    let start = c.before.before.before.before in
-    words-of-columns _ _ _ start.requires.columns-are start.requires.messages-are _ _ c.before.before.columns-fault.ensures c.enum-told2.given.1
+    let start = c in
+    words-of-columns _ _ _ start.requires.columns-are start.requires.messages-are _ _ c.columns_fault-of_columns.ensures c.enum_told-in_default-1.given.1
 
-returns-2 : tie.Need-returns-2
+returns-2 : tie.Need-returns-in_default-of_messages
 returns-2 c =
-    let at-enum-told = c.before.before.before in
-    let at-columns-fault = at-enum-told.before.before in
-    let start = at-columns-fault.before.before in
-    let clear = sym at-columns-fault.columns-fault.ensures ∙ at-enum-told.enum_told.given.1 in
-    words-of-messages _ _ _ start.requires.columns-are start.requires.messages-are clear _ _ c.before.before.messages-fault.ensures c.enum-told4.given.1
+    let at-enum-told = c in
+    let at-columns-fault = at-enum-told in
+    let start = at-columns-fault in
+    let clear = sym at-columns-fault.columns_fault-of_columns.ensures ∙ at-enum-told.enum_told-1.given.1 in
+    words-of-messages _ _ _ start.requires.columns-are start.requires.messages-are clear _ _ c.messages_fault-of_messages.ensures c.enum_told-in_default-of_messages-1.given.1
 
-returns-3 : tie.Need-returns-3
+returns-3 : tie.Need-returns
 returns-3 c =
-    let at-messages-fault = c.before.before.before in
-    let at-enum-told = at-messages-fault.before in
-    let at-columns-fault = at-enum-told.before.before in
-    let start = at-columns-fault.before.before in
-    let clear = sym at-columns-fault.columns-fault.ensures ∙ at-enum-told.enum_told.given.1 in
-    let clear' = sym at-messages-fault.messages-fault.ensures ∙ c.before.enum-told3.given.1 in
-    words-of-nodes _ _ _ start.requires.columns-are start.requires.messages-are clear _ clear' c.nodes-fault.ensures
+    let at-messages-fault = c in
+    let at-enum-told = at-messages-fault in
+    let at-columns-fault = at-enum-told in
+    let start = at-columns-fault in
+    let clear = sym at-columns-fault.columns_fault-of_columns.ensures ∙ at-enum-told.enum_told-1.given.1 in
+    let clear' = sym at-messages-fault.messages_fault-of_messages.ensures ∙ c.enum_told-in-Clear-of_messages-1.given.1 in
+    words-of-nodes _ _ _ start.requires.columns-are start.requires.messages-are clear _ clear' c.nodes_fault.ensures
 
-pub words-fault-spec : {M : Type 1} → statement M
-words-fault-spec =
+pub words_fault_spec : {M : Type 1} → statement M
+words_fault_spec =
     tie.close
     (tie.spec
     (λ c κs. search rules)
