@@ -8,15 +8,15 @@ use Rattle.wellformed.proofs.words_fault.Tie as tie
 returns : tie.Need-returns-in_default
 returns c =
     let start = c in
-    words-of-columns _ _ _ start.requires.columns-are start.requires.messages-are _ _ c.columns_fault-of_columns.ensures c.enum_told-in_default-1.given.1
+    words-of-columns _ _ _ start.requires.columns-are start.requires.messages-are _ _ c.columns_fault-of_columns.ensures c.in_default.is
 
 returns-2 : tie.Need-returns-in_default-of_messages
 returns-2 c =
     let at-enum-told = c in
     let at-columns-fault = at-enum-told in
     let start = at-columns-fault in
-    let clear = sym at-columns-fault.columns_fault-of_columns.ensures ∙ at-enum-told.enum_told-1.given.1 in
-    words-of-messages _ _ _ start.requires.columns-are start.requires.messages-are clear _ _ c.messages_fault-of_messages.ensures c.enum_told-in_default-of_messages-1.given.1
+    let clear = sym at-columns-fault.columns_fault-of_columns.ensures ∙ at-enum-told.in-Clear.is in
+    words-of-messages _ _ _ start.requires.columns-are start.requires.messages-are clear _ _ c.messages_fault-of_messages.ensures c.in_default-of_messages.is
 
 returns-3 : tie.Need-returns
 returns-3 c =
@@ -24,8 +24,8 @@ returns-3 c =
     let at-enum-told = at-messages-fault in
     let at-columns-fault = at-enum-told in
     let start = at-columns-fault in
-    let clear = sym at-columns-fault.columns_fault-of_columns.ensures ∙ at-enum-told.enum_told-1.given.1 in
-    let clear' = sym at-messages-fault.messages_fault-of_messages.ensures ∙ c.enum_told-in-Clear-of_messages-1.given.1 in
+    let clear = sym at-columns-fault.columns_fault-of_columns.ensures ∙ at-enum-told.in-Clear.is in
+    let clear' = sym at-messages-fault.messages_fault-of_messages.ensures ∙ c.in-Clear-of_messages.is in
     words-of-nodes _ _ _ start.requires.columns-are start.requires.messages-are clear _ clear' c.nodes_fault.ensures
 
 pub words_fault_spec : {M : Type 1} → statement M
