@@ -7,50 +7,40 @@ use borrow.Author.Rules.{rules}
 use Rattle.reader.proofs.decode.Statement.{statement}
 use Rattle.reader.proofs.decode.Tie as tie
 
-returns : tie.Need-returns
+returns : tie.Need-returns-in_default
 returns c =
-    let taken = c.before.before.before.before in
-    answered-bad _ c.enum_told.given.1 (file-head _ _ (taken.words-in.ensures.refuses _ c.enum_told.given.1))
+    answered-bad _ c.in_default.is (file-head _ _ (c.words_in-got.ensures.refuses _ c.in_default.is))
 
-slice-reshare-prefix-words-fault : tie.Need-slice-reshare-prefix-words-fault
+slice-reshare-prefix-words-fault : tie.Need-slice_bounds-words_fault-end
 slice-reshare-prefix-words-fault c =
-    let got = c.before in
-    (got.before.before.before.before.words-in.ensures.opens _ got.got.given.1).within
+    (c.words_in-got.ensures.opens _ c.in-Problem.is).within
 
-slice-aggregate-words-fault : tie.Need-slice-aggregate-words-fault
+slice-aggregate-words-fault : tie.Need-slice_bounds-words_fault-end-2
 slice-aggregate-words-fault c =
-    let got = c.before.before in
-    sym (length-take-le _ _ (got.before.before.before.before.words-in.ensures.opens _ got.got.given.1).within)
+    sym (length-take-le _ _ (c.words_in-got.ensures.opens _ c.in-Problem.is).within)
 
-columns-in-requires : tie.Need-columns-in-requires
+columns-in-requires : tie.Need-columns_in-requires
 columns-in-requires c κs =
-    let got = c.before.before in
-    (head-right _ (got.before.before.before.before.words-in.ensures.opens _ got.got.given.1).clear).long
+    (head-right _ (c.words_in-got.ensures.opens _ c.in-Problem.is).clear).long
 
-messages-in-requires : tie.Need-messages-in-requires
+messages-in-requires : tie.Need-messages_in-requires
 messages-in-requires c κs =
-    let got = c.before.before.before in
-    (head-right _ (got.before.before.before.before.words-in.ensures.opens _ got.got.given.1).clear).long
+    (head-right _ (c.words_in-got.ensures.opens _ c.in-Problem.is).clear).long
 
-words-fault-requires : tie.Need-words-fault-requires
+words-fault-requires : tie.Need-words_fault-fault-requires
 words-fault-requires c κs =
-    let got = c.before.before.before.before in
-    rw (c.before.columns-in.ensures.0, c.messages-in.ensures.0) (got.before.before.before.before.words-in.ensures.opens _ got.got.given.1).counted
+    rw (c.columns_in.ensures.0, c.messages_in.ensures.0) (c.words_in-got.ensures.opens _ c.in-Problem.is).counted
 
-returns-2 : tie.Need-returns-2
+returns-2 : tie.Need-returns-in-Bad
 returns-2 c =
-    let tested = c.before.before.before in
-    let got = tested.before.before.before.before.before in
-    decoded-bad (got.before.before.before.before.words-in.ensures.opens _ got.got.given.1) tested.words-fault.ensures refl c.before.fault.given.1
+    decoded-bad (c.words_in-got.ensures.opens _ c.in-Problem.is) c.words_fault-fault.ensures refl c.in-Bad.is
 
-returns-3 : tie.Need-returns-3
+returns-3 : tie.Need-returns
 returns-3 c =
-    let tested = c.before.before in
-    let got = tested.before.before.before.before.before in
-    decoded-clear (got.before.before.before.before.words-in.ensures.opens _ got.got.given.1) tested.words-fault.ensures refl c.enum-told2.given.1
+    decoded-clear (c.words_in-got.ensures.opens _ c.in-Problem.is) c.words_fault-fault.ensures refl c.in_default-fault.is
 
-pub decode-spec : {M : Type 1} → statement M
-decode-spec =
+pub decode_spec : {M : Type 1} → statement M
+decode_spec =
     tie.close
     (tie.spec
     (λ c κs. search rules)

@@ -14,73 +14,59 @@ use Rattle.reader.proofs.head_fault.Statement.{statement}
 use Rattle.reader.proofs.head_fault.Tie as tie
 
 -- what the tests of length, mark and version found, and what is wrong with the header
-found : (c : tie.Else3) → let f = c.before.before.before.before.before.before.before.args.file.now in (head_bytes ≤ length f) × (marked f ≡ true) × (is_version (version_in f) ≡ true)
+found : (c : tie.Else-not-is_version) → let f = c.args.file.now in (head_bytes ≤ length f) × (marked f ≡ true) × (is_version (version_in f) ≡ true)
 found c =
-    let at_mark = c.before.before.before in
-    let at_length = at_mark.before.before in (
-      at_length.if1.false,
-      sym at_mark.before.is-marked.ensures ∙ not-false _ at_mark.if2.false,
-      ap is_version (sym c.before.before.two_bytes.ensures.0) ∙ sym c.before.is-version.ensures ∙ not-false _ c.if3.false,
+    (
+      c.if-file-lt-HEAD_BYTES.false,
+      sym c.is_marked.ensures ∙ not-false _ c.if-not-is_marked.false-raw,
+      ap is_version (sym c.two_bytes-version.ensures.0) ∙ sym c.is_version.ensures ∙ not-false _ c.if-not-is_version.false-raw,
     )
 
-tested : (c : tie.After-header-fault) → let f = c.before.before.before.before.before.before.before.before.before.before.before.before.args.file.now in
-    c.header-fault.result ≡ header_fault (words_of f)
+tested : (c : tie.After-header_fault-of_header) → let f = c.args.file.now in
+    c.header_fault-of_header.result ≡ header_fault (words_of f)
 tested c =
-    let start = c.before.before.before.before.before.before.before.before.before.before.before.before in
-    header_read start.args.file.now c.before.before.before.read-header.ensures c.header-fault.ensures
+    header_read c.args.file.now c.read_header.ensures c.header_fault-of_header.ensures
 
 -- how many bytes there are to be
-counted : (c : tie.After-bytes-for) →
-    let at-version = c.before.before.before.before.before.before.before.before.before.before.before.before.before.before.before in
-    c.bytes-for.result ≡ bytes_in at-version.before.before.before.before.before.args.file.now
+counted : (c : tie.After-bytes_for) →
+    c.bytes_for.result ≡ bytes_in c.args.file.now
 counted c =
-    let at-version = c.before.before.before.before.before.before.before.before.before.before.before.before.before.before.before in
-    c.bytes-for.ensures ∙ rw (c.before.before.before.layout_of.ensures, at-version.two_bytes.ensures.0, c.before.before.columns-in.ensures.0, c.before.messages-in.ensures.0)
+    c.bytes_for.ensures ∙ rw (c.layout_of.ensures, c.two_bytes-version.ensures.0, c.columns_in.ensures.0, c.messages_in.ensures.0)
 
-returns : tie.Need-returns
-returns c = head-short _ c.if1.true
+returns : tie.Need-returns-then-file-lt-HEAD_BYTES
+returns c = head-short _ c.if-file-lt-HEAD_BYTES.true
 
-returns-2 : tie.Need-returns-2
-returns-2 c = head-unmarked _ c.before.before.if1.false (sym c.before.is-marked.ensures ∙ not-true _ c.if2.true)
+returns-2 : tie.Need-returns-then-not-is_marked
+returns-2 c = head-unmarked _ c.if-file-lt-HEAD_BYTES.false (sym c.is_marked.ensures ∙ not-true _ c.if-not-is_marked.true-raw)
 
-returns-3 : tie.Need-returns-3
+returns-3 : tie.Need-returns-then-not-is_version
 returns-3 c =
-    let at_mark = c.before.before.before in
-    let mark = sym at_mark.before.is-marked.ensures ∙ not-false _ at_mark.if2.false in
-    head-other _ at_mark.before.before.if1.false mark
-    (ap is_version (sym c.before.before.two_bytes.ensures.0) ∙ sym c.before.is-version.ensures ∙ not-true _ c.if3.true)
+    let mark = sym c.is_marked.ensures ∙ not-false _ c.if-not-is_marked.false-raw in
+    head-other _ c.if-file-lt-HEAD_BYTES.false mark
+    (ap is_version (sym c.two_bytes-version.ensures.0) ∙ sym c.is_version.ensures ∙ not-true _ c.if-not-is_version.true-raw)
 
-returns-4 : tie.Need-returns-4
+returns-4 : tie.Need-returns-in_default
 returns-4 c =
-    let at-header = c.before.before in
-    let k = found at-header.before.before.before.before.before in
-    head-wrong _ k.0 k.1 k.2 (tested at-header) c.enum-told2.given.1
+    let k = found c.before.before.before.before.before.before in
+    head-wrong _ k.0 k.1 k.2 (tested c.before) c.in_default.is
 
-returns-5 : tie.Need-returns-5
+returns-5 : tie.Need-returns-then-file-ne0
 returns-5 c =
-    let at_clear = c.before.before in
-    let at-header = at_clear.before.before in
-    let k = found at-header.before.before.before.before.before in
-    head-last _ k.0 k.1 k.2 (tested at-header) at_clear.enum_told.given.1 (λ e. c.if4.true e)
+    let k = found c.before.before.before.before.before.before.before.before in
+    head-last _ k.0 k.1 k.2 (tested c.before.before.before) c.in-Clear.is (λ e. c.if-file-ne0.true e)
 
-returns-6 : tie.Need-returns-6
+returns-6 : tie.Need-returns-then-file-bytes_for
 returns-6 c =
-    let at_last = c.before.before.before.before.before in
-    let at_clear = at_last.before.before in
-    let at-header = at_clear.before.before in
-    let k = found at-header.before.before.before.before.before in
-    head-unlike _ k.0 k.1 k.2 (tested at-header) at_clear.enum_told.given.1 at_last.if4.false (λ e. c.if5.true (e ∙ sym (counted c.before)))
+    let k = found c.before.before.before.before.before.before.before.before.before.before.before.before.before in
+    head-unlike _ k.0 k.1 k.2 (tested c.before.before.before.before.before.before.before.before) c.in-Clear.is c.if-file-ne0.false (λ e. c.if-file-bytes_for.true (e ∙ sym (counted c.before)))
 
-returns-7 : tie.Need-returns-7
+returns-7 : tie.Need-returns
 returns-7 c =
-    let at_last = c.before.before.before.before.before in
-    let at_clear = at_last.before.before in
-    let at-header = at_clear.before.before in
-    let k = found at-header.before.before.before.before.before in
-    head_clear _ k.0 k.1 k.2 (tested at-header) at_clear.enum_told.given.1 at_last.if4.false (c.if5.false ∙ counted c.before)
+    let k = found c.before.before.before.before.before.before.before.before.before.before.before.before.before in
+    head_clear _ k.0 k.1 k.2 (tested c.before.before.before.before.before.before.before.before) c.in-Clear.is c.if-file-ne0.false (c.if-file-bytes_for.false ∙ counted c.before)
 
-pub head-fault-spec : {M : Type 1} → statement M
-head-fault-spec =
+pub head_fault_spec : {M : Type 1} → statement M
+head_fault_spec =
     tie.close
     (tie.spec
     returns

@@ -6,18 +6,16 @@ use borrow.Author.Rules.{rules}
 use Rattle.reader.proofs.identifier_in.Statement.{statement}
 use Rattle.reader.proofs.identifier_in.Tie as tie
 
-returns : tie.Need-returns
+returns : tie.Need-returns-in-One
 returns c =
-    let told = c.before in
-    c.two_bytes.ensures.0 ∙ sym (ap (λ (L : Layout). identifier_of L told.before.before.before.args.bytes.now) told.enum_told.given.1)
+    c.two_bytes.ensures.0 ∙ sym (ap (λ (L : Layout). identifier_of L c.args.bytes.now) c.in-One.is)
 
-returns-2 : tie.Need-returns-2
+returns-2 : tie.Need-returns-in-Two
 returns-2 c =
-    let told = c.before in
-    c.four_bytes.ensures ∙ sym (ap (λ (L : Layout). identifier_of L told.before.before.before.args.bytes.now) told.enum-told2.given.1)
+    c.four_bytes.ensures ∙ sym (ap (λ (L : Layout). identifier_of L c.args.bytes.now) c.in-Two.is)
 
-pub identifier-in-spec : {M : Type 1} → statement M
-identifier-in-spec =
+pub identifier_in_spec : {M : Type 1} → statement M
+identifier_in_spec =
     tie.close
     (tie.spec
     (λ c. search rules)

@@ -7,16 +7,15 @@ use borrow.Author.Rules.{rules}
 use Rattle.reader.proofs.kind_in.Statement.{statement}
 use Rattle.reader.proofs.kind_in.Tie as tie
 
-shared-slice-read-byte : tie.Need-shared-slice-read-byte
-shared-slice-read-byte c = let told = c.before in omega (arith, told.before.before.before.requires ∙ ap column_size told.enum-told2.given.1)
+shared-slice-read-byte : tie.Need-bounds-bytes-4
+shared-slice-read-byte c = omega (arith, c.requires ∙ ap column_size c.in-Two.is)
 
-returns-2 : tie.Need-returns-2
+returns-2 : tie.Need-returns-in-Two
 returns-2 c =
-    let told = c.before.before in
-    c.byte.ensures.0 ∙ sym (ap (λ (L : Layout). kind_of L told.before.before.before.args.bytes.now) told.enum-told2.given.1)
+    c.byte.ensures.0 ∙ sym (ap (λ (L : Layout). kind_of L c.args.bytes.now) c.in-Two.is)
 
-pub kind-in-spec : {M : Type 1} → statement M
-kind-in-spec =
+pub kind_in_spec : {M : Type 1} → statement M
+kind_in_spec =
     tie.close
     (tie.spec
     (λ c. search rules)

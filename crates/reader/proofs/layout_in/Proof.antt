@@ -6,10 +6,10 @@ use Rattle.reader.proofs.layout_in.Statement.{statement}
 use Rattle.reader.proofs.layout_in.Tie as tie
 
 returns : tie.Need-returns
-returns c = c.layout_of.ensures ∙ ap layout_of c.before.two_bytes.ensures.0
+returns c = c.layout_of.ensures ∙ ap layout_of c.two_bytes.ensures.0
 
-pub layout-in-spec : {M : Type 1} → statement M
-layout-in-spec =
+pub layout_in_spec : {M : Type 1} → statement M
+layout_in_spec =
     tie.close
     (tie.spec
     (λ c κs. search rules)

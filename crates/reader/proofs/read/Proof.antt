@@ -7,79 +7,63 @@ use borrow.Author.Rules.{rules}
 use Rattle.reader.proofs.read.Statement.{statement}
 use Rattle.reader.proofs.read.Tie as tie
 
-returns : tie.Need-returns
-returns c = reading-refused _ _ _ _ _ c.before.before.before.decode.ensures c.enum_told.given.1
+returns : tie.Need-returns-in_default
+returns c = reading-refused _ _ _ _ _ c.decode-got.ensures c.in_default.is
 
 -- where the answer is a problem, the file has a header
-layout-in-requires : tie.Need-layout-in-requires
+layout-in-requires : tie.Need-layout_in-requires
 layout-in-requires c κs =
-    let got = c.before in
-    let o = got.before.before.before.decode.ensures.opens _ got.got.given.1 in
+    let o = c.decode-got.ensures.opens _ c.in-Problem.is in
     (head-right _ (file-parts _ o.clear).0).long
 
-columns-in-requires : tie.Need-columns-in-requires
+columns-in-requires : tie.Need-columns_in-k-requires
 columns-in-requires c κs =
-    let got = c.before.before.before in
-    let o = got.before.before.before.decode.ensures.opens _ got.got.given.1 in
+    let o = c.decode-got.ensures.opens _ c.in-Problem.is in
     (head-right _ (file-parts _ o.clear).0).long
 
-messages-in-requires : tie.Need-messages-in-requires
+messages-in-requires : tie.Need-messages_in-m-requires
 messages-in-requires c κs =
-    let got = c.before.before.before.before in
-    let o = got.before.before.before.decode.ensures.opens _ got.got.given.1 in
+    let o = c.decode-got.ensures.opens _ c.in-Problem.is in
     (head-right _ (file-parts _ o.clear).0).long
 
 -- and its words, three for each column, stand in front of the buffer
-said-for-requires : tie.Need-said-for-requires
+said-for-requires : tie.Need-said_for-count-requires
 said-for-requires c κs =
-    let got = c.before.before.before.before.before in
-    let o = got.before.before.before.decode.ensures.opens _ got.got.given.1 in
-    let said = opened-said o c.before.columns-in.ensures.0 c.messages-in.ensures.0 in
-    (c.before.before.column-words.ensures.2, said.columns-most, said.messages-most)
+    let o = c.decode-got.ensures.opens _ c.in-Problem.is in
+    let said = opened-said o c.columns_in-k.ensures.0 c.messages_in-m.ensures.0 in
+    (c.column_words-said.ensures.2, said.columns-most, said.messages-most)
 
-returns-2 : tie.Need-returns-2
+returns-2 : tie.Need-returns-then-words-count
 returns-2 c =
-    let at-layout = c.before.before.before.before.before in
-    let got = at-layout.before.before in
-    let o = got.before.before.before.decode.ensures.opens _ got.got.given.1 in
-    let said = c.before.before.before.before.column-words.ensures.0 ∙ ap column_words at-layout.layout-in.ensures in
-    reading-short _ _ _ o said c.before.before.before.columns-in.ensures.0 c.before.before.messages-in.ensures.0
-    c.before.said-for.ensures c.if1.true
+    let o = c.decode-got.ensures.opens _ c.in-Problem.is in
+    let said = c.column_words-said.ensures.0 ∙ ap column_words c.layout_in.ensures in
+    reading-short _ _ _ o said c.columns_in-k.ensures.0 c.messages_in-m.ensures.0
+    c.said_for-count.ensures c.if-words-count.true
 
-array-share-prefix-buffer : tie.Need-array-share-prefix-buffer
+array-share-prefix-buffer : tie.Need-slice_bounds-buffer-end
 array-share-prefix-buffer c =
-    let got = c.before.before.before.before.before.before.before in
-    (got.before.before.before.decode.ensures.opens _ got.got.given.1).within
+    (c.decode-got.ensures.opens _ c.in-Problem.is).within
 
-slice-aggregate-recast : tie.Need-slice-aggregate-recast
+slice-aggregate-recast : tie.Need-slice_bounds-recast-end
 slice-aggregate-recast c =
-    let got = c.before.before.before.before.before.before.before.before in
-    sym (opened-length (got.before.before.before.decode.ensures.opens _ got.got.given.1))
+    sym (opened-length (c.decode-got.ensures.opens _ c.in-Problem.is))
 
 recast-requires : tie.Need-recast-requires
 recast-requires c κs =
-    let counted = c.before.before.before in
-    let at_words = counted.before.before.before in
-    let got = at_words.before.before.before in
-    let o = got.before.before.before.decode.ensures.opens _ got.got.given.1 in
-    let words = at_words.column-words.ensures in (
-      opened-said o counted.before.before.columns-in.ensures.0 counted.before.messages-in.ensures.0,
+    let o = c.decode-got.ensures.opens _ c.in-Problem.is in
+    let words = c.column_words-said.ensures in (
+      opened-said o c.columns_in-k.ensures.0 c.messages_in-m.ensures.0,
       words.1,
       words.2,
-      rw (← counted.said-for.ensures) c.before.before.if1.false,
+      rw (← c.said_for-count.ensures) c.if-words-count.false,
     )
 
-returns-3 : tie.Need-returns-3
+returns-3 : tie.Need-returns
 returns-3 c =
-    let recasted = c.before.before in
-    let at_room = recasted.before.before.before in
-    let counted = at_room.before in
-    let at_words = counted.before.before.before in
-    let got = at_words.before.before.before in
-    let o = got.before.before.before.decode.ensures.opens _ got.got.given.1 in
-    let said = at_words.column-words.ensures.0 ∙ ap column_words at_words.before.layout-in.ensures in
-    reading-done _ _ _ o said counted.before.before.columns-in.ensures.0 counted.before.messages-in.ensures.0
-    counted.said-for.ensures at_room.if1.false recasted.recast.ensures
+    let o = c.decode-got.ensures.opens _ c.in-Problem.is in
+    let said = c.column_words-said.ensures.0 ∙ ap column_words c.layout_in.ensures in
+    reading-done _ _ _ o said c.columns_in-k.ensures.0 c.messages_in-m.ensures.0
+    c.said_for-count.ensures c.if-words-count.false c.recast.ensures
 
 pub read_spec : {M : Type 1} → statement M
 read_spec =

@@ -7,10 +7,10 @@ use Rattle.reader.proofs.read_column.Statement.{statement}
 use Rattle.reader.proofs.read_column.Tie as tie
 
 returns : tie.Need-returns
-returns c = let start = c.before.before.before.before.before in sets-all (_ ∷ _ ∷ _ ∷ []) start.args.words.now start.requires.1 ∙ cc
+returns c = sets-all (_ ∷ _ ∷ _ ∷ []) c.args.words.now c.requires.1 ∙ cc
 
-pub read-column-spec : {M : Type 1} → statement M
-read-column-spec =
+pub read_column_spec : {M : Type 1} → statement M
+read_column_spec =
     tie.close
     (tie.spec
     (λ c κs. search rules)

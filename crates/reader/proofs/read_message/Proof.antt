@@ -10,25 +10,21 @@ use borrow.Author.Rules.{rules}
 use Rattle.reader.proofs.read_message.Statement.{statement}
 use Rattle.reader.proofs.read_message.Tie as tie
 
-read-rest-requires : tie.Need-read-rest-requires
+read-rest-requires : tie.Need-read_rest-requires
 read-rest-requires c κs =
-    let sized = c.before.before in
-    let start = sized.before.before.before in
-    let n = sized.identifier-size.result in
-    let bytes = start.args.bytes.now in
-    (ap length (tail-part n bytes) ∙ length-drop n bytes ∙ omega (arith, sized.identifier-size.ensures.0, start.requires.0), start.requires.1)
+    let n = c.identifier_size-behind.result in
+    let bytes = c.args.bytes.now in
+    (ap length (tail-part n bytes) ∙ length-drop n bytes ∙ omega (arith, c.identifier_size-behind.ensures.0, c.requires.0), c.requires.1)
 
 returns : tie.Need-returns
 returns c =
-    let read = c.before.before.before in
-    let sized = read.before.before.before in
-    let args = sized.before.before.before.args in
+    let args = c.args in
     let bytes = args.bytes.now in
-    set_first read.read-rest.ensures c.identifier-in.ensures
-    ∙ ap (λ (t : List ℕ). identifier_of args.layout bytes ∷ rest_of t) (tail-part sized.identifier-size.result bytes ∙ ap (λ (n : ℕ). drop n bytes) sized.identifier-size.ensures.0)
+    set_first c.read_rest.ensures c.identifier_in.ensures
+    ∙ ap (λ (t : List ℕ). identifier_of args.layout bytes ∷ rest_of t) (tail-part c.identifier_size-behind.result bytes ∙ ap (λ (n : ℕ). drop n bytes) c.identifier_size-behind.ensures.0)
 
-pub read-message-spec : {M : Type 1} → statement M
-read-message-spec =
+pub read_message_spec : {M : Type 1} → statement M
+read_message_spec =
     tie.close
     (tie.spec
     (λ c κs. search rules)

@@ -11,40 +11,37 @@ use Rattle.reader.proofs.words_in.Statement.{statement}
 use Rattle.reader.proofs.words_in.Tie as tie
 
 -- no fault was found in the head
-clear : (c : tie.After-enum-told) → head_fault c.before.before.before.before.before.args.file.now ≡ Clear
-clear c = sym c.before.before.head-fault.ensures ∙ c.enum_told.given.1
+clear : (c : tie.In_default) → head_fault c.args.file.now ≡ Clear
+clear c = sym c.head_fault-of_head.ensures ∙ c.in_default.is
 
-sized : (c : tie.After-layout-in) → Sized c.layout-in.result c.before.before.before.before.before.before.before.before.args.file.now c.before.before.columns-in.result c.before.messages-in.result
-sized c = head-sized _ _ _ (head-right _ (clear c.before.before.before)) c.layout-in.ensures c.before.before.columns-in.ensures.0 c.before.messages-in.ensures.0
+sized : (c : tie.After-layout_in) → Sized c.layout_in.result c.args.file.now c.columns_in-k.result c.messages_in-m.result
+sized c = head-sized _ _ _ (head-right _ (clear c.before.before.before)) c.layout_in.ensures c.columns_in-k.ensures.0 c.messages_in-m.ensures.0
 
-returns : tie.Need-returns
-returns c = answered-bad _ refl (sym c.before.before.before.head-fault.ensures ∙ c.before.of-head.given.1)
+returns : tie.Need-returns-in-Bad
+returns c = answered-bad _ refl (sym c.head_fault-of_head.ensures ∙ c.in-Bad.is)
 
-columns-in-requires : tie.Need-columns-in-requires
+columns-in-requires : tie.Need-columns_in-k-requires
 columns-in-requires c κs = (head-right _ (clear c)).long
 
-messages-in-requires : tie.Need-messages-in-requires
+messages-in-requires : tie.Need-messages_in-m-requires
 messages-in-requires c κs = (head-right _ (clear c.before)).long
 
-layout-in-requires : tie.Need-layout-in-requires
+layout-in-requires : tie.Need-layout_in-requires
 layout-in-requires c κs = (head-right _ (clear c.before.before)).long
 
-read-words-requires : tie.Need-read-words-requires
+read-words-requires : tie.Need-read_words-requires
 read-words-requires c κs = (sized c.before, omega arith)
 
-message-at-requires : tie.Need-message-at-requires
+message-at-requires : tie.Need-message_at-requires
 message-at-requires c κs = let s = sized c.before.before.before.before in (s.columns-most, s.messages-most)
 
-returns-2 : tie.Need-returns-2
+returns-2 : tie.Need-returns
 returns-2 c =
-    let at-read-words = c.before.before.before in
-    let at-layout = at-read-words.before.before in
-    let start = at-layout.before.before.before.before.before.before.before.before in
     answered-words _ refl
-    (laid _ _ _ _ _ _ (clear at-layout.before.before.before) at-layout.layout-in.ensures (sized at-layout) (omega (arith, start.requires, at-read-words.read-words.auto.1.1.1.1.0)) at-read-words.read-words.ensures c.message-at.ensures)
+    (laid _ _ _ _ _ _ (clear c.before.before.before.before.before.before.before.before) c.layout_in.ensures (sized c.before.before.before.before.before) (omega (arith, c.requires, c.read_words.auto.words.1.1.0)) c.read_words.ensures c.message_at.ensures)
 
-pub words-in-spec : {M : Type 1} → statement M
-words-in-spec =
+pub words_in_spec : {M : Type 1} → statement M
+words_in_spec =
     tie.close
     (tie.spec
     (λ c κs. search rules)

@@ -5,5 +5,5 @@ use Rattle.reader.specs.Answer.{refusal}
 use Rattle.reader.proofs.answer.refusal_of.Statement.{statement}
 use Rattle.reader.proofs.answer.refusal_of.Tie as tie
 
-pub refusal-of-spec : {M : Type 1} → statement M
-refusal-of-spec = tie.close (tie.spec (λ c. search rules) (λ c. search rules) (λ c. ap refusal (sym c.before.got.given.1)) (λ c. search rules))
+pub refusal_of_spec : {M : Type 1} → statement M
+refusal_of_spec = tie.close (tie.spec (λ c. search rules) (λ c. search rules) (λ c. ap refusal (sym c.in-Refused.is)) (λ c. search rules))
