@@ -49,7 +49,7 @@ loop-again : tie.Need-loop-c-preserved invariant-loop decreases-loop
 loop-again c =
     let call = c.read_column in
     let at = c.loop-c in
-    (search rules, turned_more (λ r. refl) at.c at.invariant.1 call.ensures call.auto.words.0)
+    (search rules, turned_more (λ r. refl) at.c at.invariant.1 call.ensures call.auto.words)
 
 returns : tie.Need-returns invariant-loop decreases-loop
 returns c = rw (← c.column_size-size.ensures.0) (turned-all c.loop-c.invariant.1 (omega arith))

@@ -49,7 +49,7 @@ loop-again : tie.Need-loop-j-preserved invariant-loop decreases-loop
 loop-again c =
     let call = c.read_message in
     let at = c.loop-j in
-    (search rules, turned_more (λ r. refl) at.j at.invariant.1 call.ensures call.auto.words.0)
+    (search rules, turned_more (λ r. refl) at.j at.invariant.1 call.ensures call.auto.words)
 
 returns : tie.Need-returns invariant-loop decreases-loop
 returns c = rw (← c.message_size-size.ensures.0) (turned-all c.loop-j.invariant.1 (omega arith))
