@@ -15,12 +15,11 @@ use Rattle.reader.proofs.head_fault.Tie as tie
 
 -- what the tests of length, mark and version found, and what is wrong with the header
 found : (c : tie.Else-not-is_version) → let f = c.args.file.now in (head_bytes ≤ length f) × (marked f ≡ true) × (is_version (version_in f) ≡ true)
-found c =
-    (
-      c.if-file-lt-HEAD_BYTES.false,
-      sym c.is_marked.ensures ∙ not-false _ c.if-not-is_marked.false-raw,
-      ap is_version (sym c.two_bytes-version.ensures.0) ∙ sym c.is_version.ensures ∙ not-false _ c.if-not-is_version.false-raw,
-    )
+found c = (
+  c.if-file-lt-HEAD_BYTES.false,
+  sym c.is_marked.ensures ∙ not-false _ c.if-not-is_marked.false-raw,
+  ap is_version (sym c.two_bytes-version.ensures.0) ∙ sym c.is_version.ensures ∙ not-false _ c.if-not-is_version.false-raw,
+)
 
 tested : (c : tie.After-header_fault-of_header) → let f = c.args.file.now in
     c.header_fault-of_header.result ≡ header_fault (words_of f)

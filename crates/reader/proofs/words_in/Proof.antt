@@ -38,7 +38,7 @@ message-at-requires c κs = let s = sized c.before.before.before.before in (s.co
 returns-2 : tie.Need-returns
 returns-2 c =
     answered-words _ refl
-    (laid _ _ _ _ _ _ (clear c.before.before.before.before.before.before.before.before) c.layout_in.ensures (sized c.before.before.before.before.before) (omega (arith, c.requires, c.read_words.auto.words.1.0)) c.read_words.ensures c.message_at.ensures)
+    (laid _ _ _ _ _ _ (clear c.before.before.before.before.before.before.before.before) c.layout_in.ensures (sized c.before.before.before.before.before) (omega (arith, c.requires, c.read_words.auto.words)) c.read_words.ensures c.message_at.ensures)
 
 pub words_in_spec : {M : Type 1} → statement M
 words_in_spec =
