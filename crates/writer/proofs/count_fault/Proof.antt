@@ -9,49 +9,43 @@ use Rattle.writer.proofs.count_fault.Statement.{statement}
 use Rattle.writer.proofs.count_fault.Tie as tie
 
 -- no fault was found in the header
-right : (c : tie.After-enum-told) → header_fault c.before.before.before.before.before.args.words.now ≡ Clear
-right c = sym c.before.before.header-fault.ensures ∙ c.enum_told.given.1
+right : (c : tie.In-Clear) → header_fault c.args.words.now ≡ Clear
+right c = sym c.header_fault-of_header.ensures ∙ c.in-Clear.is
 
 -- so many words are those of the version
-counted : (c : tie.After-said-for) →
-    let w = c.before.before.before.before.before.before.before.before.before.before.before.before.args.words.now in
-    c.said-for.result ≡ said_count (layout_by w) w
+counted : (c : tie.After-said_for) →
+    let w = c.args.words.now in
+    c.said_for.result ≡ said_count (layout_by w) w
 counted c =
-    let at-counts = c.before.before.before in
-    c.said-for.ensures ∙ rw (c.before.column-words.ensures.0, c.before.before.layout-by.ensures, at-counts.before.before.wide.ensures.0, at-counts.wide2.ensures.0)
+    c.said_for.ensures ∙ rw (c.column_words.ensures.0, c.layout_by.ensures, c.wide-k.ensures.0, c.wide-m.ensures.0)
 
-returns : tie.Need-returns
-returns c = count-short _ c.if1.true
+returns : tie.Need-returns-then-words-lt-HEADER_WORDS
+returns c = count-short _ c.if-words-lt-HEADER_WORDS.true
 
-returns-2 : tie.Need-returns-2
-returns-2 c = count-header _ c.before.before.before.if1.false c.before.before.header-fault.ensures c.enum-told2.given.1
+returns-2 : tie.Need-returns-in_default
+returns-2 c = count-header _ c.if-words-lt-HEADER_WORDS.false c.header_fault-of_header.ensures c.in_default.is
 
-layout-by-requires : tie.Need-layout-by-requires
+layout-by-requires : tie.Need-layout_by-requires
 layout-by-requires c κs =
-    let clear = c.before.before.before.before in
-    let wide = c.before.before.wide.ensures.0 in
-    let few = header-few _ clear.before.before.before.if1.false (right clear) wide c.wide2.ensures.0 in
-    (wide, c.wide2.ensures.0, few.0, few.1)
+    let wide = c.wide-k.ensures.0 in
+    let few = header-few _ c.if-words-lt-HEADER_WORDS.false (right c.before.before.before.before) wide c.wide-m.ensures.0 in
+    (wide, c.wide-m.ensures.0, few.0, few.1)
 
-said-for-requires : tie.Need-said-for-requires
+said-for-requires : tie.Need-said_for-requires
 said-for-requires c κs =
-    let at-counts = c.before.before in
-    let clear = at-counts.before.before.before.before in
-    let few = header-few _ clear.before.before.before.if1.false (right clear) at-counts.before.before.wide.ensures.0 at-counts.wide2.ensures.0 in
-    (c.column-words.ensures.2, few.0, few.1)
+    let few = header-few _ c.if-words-lt-HEADER_WORDS.false (right c.before.before.before.before.before.before) c.wide-k.ensures.0 c.wide-m.ensures.0 in
+    (c.column_words.ensures.2, few.0, few.1)
 
-returns-3 : tie.Need-returns-3
+returns-3 : tie.Need-returns-then-words-said_for
 returns-3 c =
-    let clear = c.before.before.before.before.before.before.before.before in
-    count-unlike _ clear.before.before.before.if1.false (right clear) (λ e. c.if2.true (e ∙ sym (counted c.before)))
+    count-unlike _ c.if-words-lt-HEADER_WORDS.false (right c.before.before.before.before.before.before.before.before) (λ e. c.if-words-said_for.true (e ∙ sym (counted c.before)))
 
-returns-4 : tie.Need-returns-4
+returns-4 : tie.Need-returns
 returns-4 c =
-    let clear = c.before.before.before.before.before.before.before.before in
-    count-clear _ clear.before.before.before.if1.false (right clear) (c.if2.false ∙ counted c.before)
+    count-clear _ c.if-words-lt-HEADER_WORDS.false (right c.before.before.before.before.before.before.before.before) (c.if-words-said_for.false ∙ counted c.before)
 
-pub count-fault-spec : {M : Type 1} → statement M
-count-fault-spec =
+pub count_fault_spec : {M : Type 1} → statement M
+count_fault_spec =
     tie.close
     (tie.spec
     returns

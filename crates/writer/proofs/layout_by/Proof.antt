@@ -9,19 +9,18 @@ use Rattle.writer.proofs.layout_by.Statement.{statement}
 use Rattle.writer.proofs.layout_by.Tie as tie
 
 -- so many words are version 1's
-counted : (c : tie.After-said-for) → c.said-for.result ≡ said_count One c.before.before.before.args.words.now
+counted : (c : tie.After-said_for) → c.said_for.result ≡ said_count One c.args.words.now
 counted c =
-    let start = c.before.before.before in
-    c.said-for.ensures ∙ rw (c.before.column-words.ensures.0, start.requires.0, start.requires.1)
+    c.said_for.ensures ∙ rw (c.column_words.ensures.0, c.requires.0, c.requires.1)
 
-returns : tie.Need-returns
-returns c = sym (ap (λ (b : Bool). cond b One Two) (eq-eqb _ _ (c.if1.true ∙ counted c.before)))
+returns : tie.Need-returns-then-words-said_for
+returns c = sym (ap (λ (b : Bool). cond b One Two) (eq-eqb _ _ (c.if-words-said_for.true ∙ counted c.before)))
 
-returns-2 : tie.Need-returns-2
-returns-2 c = sym (ap (λ (b : Bool). cond b One Two) (ne_eqb _ _ (λ e. c.if1.false (e ∙ sym (counted c.before)))))
+returns-2 : tie.Need-returns
+returns-2 c = sym (ap (λ (b : Bool). cond b One Two) (ne_eqb _ _ (λ e. c.if-words-said_for.false (e ∙ sym (counted c.before)))))
 
-pub layout-by-spec : {M : Type 1} → statement M
-layout-by-spec =
+pub layout_by_spec : {M : Type 1} → statement M
+layout_by_spec =
     tie.close
     (tie.spec
     (λ c κs. search rules)

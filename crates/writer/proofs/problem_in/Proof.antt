@@ -10,53 +10,45 @@ use Rattle.writer.proofs.problem_in.Statement.{statement}
 use Rattle.writer.proofs.problem_in.Tie as tie
 
 -- no fault was found in header and count
-right : (c : tie.After-enum-told) → Given c.before.before.before.before.before.args.words.now
-right c = given-right _ (sym c.before.before.count-fault.ensures ∙ c.enum_told.given.1)
+right : (c : tie.In_default) → Given c.args.words.now
+right c = given-right _ (sym c.count_fault-of_count.ensures ∙ c.in_default.is)
 
-returns : tie.Need-returns
-returns c = answered-bad _ refl (sym c.before.before.before.count-fault.ensures ∙ c.before.of-count.given.1)
+returns : tie.Need-returns-in-Bad
+returns c = answered-bad _ refl (sym c.count_fault-of_count.ensures ∙ c.in-Bad.is)
 
-shared-slice-read-wide : tie.Need-shared-slice-read-wide
+shared-slice-read-wide : tie.Need-bounds-words-5
 shared-slice-read-wide c = omega (arith, (right c.before).long)
 
-shared-slice-read-wide-2 : tie.Need-shared-slice-read-wide-2
+shared-slice-read-wide-2 : tie.Need-bounds-words-6
 shared-slice-read-wide-2 c = omega (arith, (right c.before.before.before).long)
 
-layout-by-requires : tie.Need-layout-by-requires
+layout-by-requires : tie.Need-layout_by-requires
 layout-by-requires c κs =
     let header = (right c.before.before.before.before).header in
-    let wide = c.before.before.wide.ensures.0 in
-    (wide, c.wide2.ensures.0, omega (arith, wide, header.columns-most), omega (arith, c.wide2.ensures.0, header.messages-most))
+    let wide = c.wide-k.ensures.0 in
+    (wide, c.wide-m.ensures.0, omega (arith, wide, header.columns-most), omega (arith, c.wide-m.ensures.0, header.messages-most))
 
 recast-requires : tie.Need-recast-requires
 recast-requires c κs =
-    let at_words = c.before in
-    let at-counts = at_words.before.before in
-    let g = right at-counts.before.before.before.before in
-    let said = at_words.column-words.ensures.0 ∙ ap column_words at_words.before.layout-by.ensures in
-    let s = given-said g said at-counts.before.before.wide.ensures.0 at-counts.wide2.ensures.0 in
+    let g = right c.before.before.before.before.before.before.before in
+    let said = c.column_words-said.ensures.0 ∙ ap column_words c.layout_by.ensures in
+    let s = given-said g said c.wide-k.ensures.0 c.wide-m.ensures.0 in
     (s, omega arith, omega arith, omega (arith, s.columns-most, s.messages-most))
 
-message-at-requires : tie.Need-message-at-requires
+message-at-requires : tie.Need-message_at-requires
 message-at-requires c κs =
-    let at-counts = c.before.before.before.before.before.before in
-    let header = (right at-counts.before.before.before.before).header in
-    (omega (arith, at-counts.before.before.wide.ensures.0, header.columns-most), omega (arith, at-counts.wide2.ensures.0, header.messages-most))
+    let header = (right c.before.before.before.before.before.before.before.before.before.before).header in
+    (omega (arith, c.wide-k.ensures.0, header.columns-most), omega (arith, c.wide-m.ensures.0, header.messages-most))
 
-returns-2 : tie.Need-returns-2
+returns-2 : tie.Need-returns
 returns-2 c =
-    let recasted = c.before.before.before in
-    let at_words = recasted.before.before in
-    let at-counts = at_words.before.before in
-    let clear = at-counts.before.before.before.before in
-    let start = clear.before.before.before.before.before in
-    let said = at_words.column-words.ensures.0 ∙ ap column_words at_words.before.layout-by.ensures in
+    let said = c.column_words-said.ensures.0 ∙ ap column_words c.layout_by.ensures in
     answered-words _ refl
-    (given start.args.problem.now (sym clear.before.before.count-fault.ensures ∙ clear.enum_told.given.1) at-counts.before.before.wide.ensures.0 at-counts.wide2.ensures.0
-    said c.message-at.ensures (omega (arith, start.requires, recasted.recast.auto.1.1.1.1.1.0)) recasted.recast.ensures)
+    (given c.args.problem.now (sym c.count_fault-of_count.ensures ∙ c.in_default.is) c.wide-k.ensures.0 c.wide-m.ensures.0
+    said c.message_at.ensures (omega (arith, c.requires, c.recast.auto.out)) c.recast.ensures)
 
-pub problem-in-spec : {M : Type 1} → statement M
-problem-in-spec =
+pub problem_in_spec : {M : Type 1} → statement M
+problem_in_spec =
     tie.close
     (tie.spec
     (λ c κs. search rules)

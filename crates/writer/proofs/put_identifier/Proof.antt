@@ -7,22 +7,18 @@ use borrow.Author.Rules.{rules}
 use Rattle.writer.proofs.put_identifier.Statement.{statement}
 use Rattle.writer.proofs.put_identifier.Tie as tie
 
-returns : tie.Need-returns
+returns : tie.Need-returns-in-One
 returns c =
-    let put = c.before.before in
-    let told = put.before.before in
-    let args = told.before.before.before.args in
-    put.put_two.ensures ∙ sym (ap (λ (L : Layout). sets args.out.now 0 (identifier_bytes L args.x)) told.enum_told.given.1)
+    let args = c.args in
+    c.put_two.ensures ∙ sym (ap (λ (L : Layout). sets args.out.now 0 (identifier_bytes L args.x)) c.in-One.is)
 
-returns-2 : tie.Need-returns-2
+returns-2 : tie.Need-returns-in-Two
 returns-2 c =
-    let put = c.before.before in
-    let told = put.before.before in
-    let args = told.before.before.before.args in
-    put.put_four.ensures ∙ sym (ap (λ (L : Layout). sets args.out.now 0 (identifier_bytes L args.x)) told.enum-told2.given.1)
+    let args = c.args in
+    c.put_four.ensures ∙ sym (ap (λ (L : Layout). sets args.out.now 0 (identifier_bytes L args.x)) c.in-Two.is)
 
-pub put-identifier-spec : {M : Type 1} → statement M
-put-identifier-spec =
+pub put_identifier_spec : {M : Type 1} → statement M
+put_identifier_spec =
     tie.close
     (tie.spec
     (λ c. search rules)

@@ -8,18 +8,16 @@ use borrow.Author.Rules.{rules}
 use Rattle.writer.proofs.put_kind.Statement.{statement}
 use Rattle.writer.proofs.put_kind.Tie as tie
 
-put-one-requires : tie.Need-put-one-requires
-put-one-requires c κs = let told = c.before in omega (arith, told.before.before.before.requires ∙ ap column_size told.enum_told.given.1)
+put-one-requires : tie.Need-put_one-requires
+put-one-requires c κs = omega (arith, c.requires ∙ ap column_size c.in-Two.is)
 
-returns : tie.Need-returns
+returns : tie.Need-returns-in-Two
 returns c =
-    let put = c.before.before in
-    let told = put.before.before in
-    let args = told.before.before.before.args in
-    put.put_one.ensures ∙ sym (ap (λ (L : Layout). sets args.out.now 4 (kind_bytes L args.x)) told.enum_told.given.1)
+    let args = c.args in
+    c.put_one.ensures ∙ sym (ap (λ (L : Layout). sets args.out.now 4 (kind_bytes L args.x)) c.in-Two.is)
 
-pub put-kind-spec : {M : Type 1} → statement M
-put-kind-spec =
+pub put_kind_spec : {M : Type 1} → statement M
+put_kind_spec =
     tie.close
     (tie.spec
     (λ c. search rules)

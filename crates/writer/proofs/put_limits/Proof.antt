@@ -5,17 +5,17 @@ use borrow.Author.Rules.{rules}
 use Rattle.writer.proofs.put_limits.Statement.{statement}
 use Rattle.writer.proofs.put_limits.Tie as tie
 
-slice-write-out-2 : tie.Need-slice-write-out-2
+slice-write-out-2 : tie.Need-bounds-out-13
 slice-write-out-2 c = simp length-set (omega arith)
 
-slice-write-out-3 : tie.Need-slice-write-out-3
+slice-write-out-3 : tie.Need-bounds-out-14
 slice-write-out-3 c = simp length-set (omega arith)
 
 returns : tie.Need-returns
-returns c = rw (c.before.before.byte.ensures, c.before.byte2.ensures, c.byte3.ensures)
+returns c = rw (c.byte.ensures, c.byte-2.ensures, c.byte-3.ensures)
 
-pub put-limits-spec : {M : Type 1} → statement M
-put-limits-spec =
+pub put_limits_spec : {M : Type 1} → statement M
+put_limits_spec =
     tie.close
     (tie.spec
     (λ c κs. search rules)

@@ -11,19 +11,16 @@ use Rattle.writer.proofs.write_column.Tie as tie
 
 returns : tie.Need-returns
 returns c =
-    let at-put-two2 = c.before.before.before.before.before.before.before in
-    let at-put-two = at-put-two2.before.before.before.before.before in
-    let start = at-put-two.before.before.before.before.before in
-    let L = start.args.layout in
-    let w : ℕ → ℕ = λ i. get_or start.args.words.now i 0 in
+    let L = c.args.layout in
+    let w : ℕ → ℕ = λ i. get_or c.args.words.now i 0 in
     let long = kind-length L (w 2) in
-    let s0 = then-set (two (w 0)) _ (begun start.args.out.now) at-put-two.put_two.ensures (omega arith) in
-    let s1 = then-set (two (w 1)) _ s0 at-put-two2.put-two2.ensures (omega arith) in
-    let s2 = then-set (kind_bytes L (w 2)) _ s1 c.before.before.put-kind.ensures (omega (arith, long)) in
+    let s0 = then-set (two (w 0)) _ (begun c.args.out.now) c.put_two.ensures (omega arith) in
+    let s1 = then-set (two (w 1)) _ s0 c.put_two-2.ensures (omega arith) in
+    let s2 = then-set (kind_bytes L (w 2)) _ s1 c.put_kind.ensures (omega (arith, long)) in
     all_set s2 (omega (arith, long))
 
-pub write-column-spec : {M : Type 1} → statement M
-write-column-spec =
+pub write_column_spec : {M : Type 1} → statement M
+write_column_spec =
     tie.close
     (tie.spec
     (λ c. search rules)

@@ -9,24 +9,20 @@ use Rattle.writer.proofs.write_file.Statement.{statement}
 use Rattle.writer.proofs.write_file.Tie as tie
 
 -- the header's part has as many bytes as a header
-slice-aggregate-write-header : tie.Need-slice-aggregate-write-header
-slice-aggregate-write-header c = sym (length-take-le head_bytes c.before.before.before.args.out.now (omega arith))
+slice-aggregate-write-header : tie.Need-slice_bounds-write_header-end-2
+slice-aggregate-write-header c = sym (length-take-le head_bytes c.args.out.now (omega arith))
 
-write-header-requires : tie.Need-write-header-requires
-write-header-requires c κs = let start = c.before.before.before in (omega arith, length-take-le head_bytes start.args.out.now (omega arith))
+write-header-requires : tie.Need-write_header-requires
+write-header-requires c κs = (omega arith, length-take-le head_bytes c.args.out.now (omega arith))
 
 returns : tie.Need-returns
 returns c =
-    let at_places = c.before.before.before.before.before in
-    let at-write-columns = at_places.before.before.before.before in
-    let at-write-header = at-write-columns.before.before.before.before.before in
-    let start = at-write-header.before.before.before.before in
-    bytes-parts start.args.layout start.args.words.now start.args.out.now _ _ _ _ _ _ _ start.requires.0.columns-are start.requires.0.messages-are
-    at_places.before.column-at.ensures (omega (arith, at_places.bytes-for.ensures))
-    at-write-header.write-header.ensures at-write-columns.write-columns.ensures c.before.before.write-messages.ensures
+    bytes-parts c.args.layout c.args.words.now c.args.out.now _ _ _ _ _ _ _ c.requires.0.columns-are c.requires.0.messages-are
+    c.column_at-from.ensures (omega (arith, c.bytes_for-to.ensures))
+    c.write_header.ensures c.write_columns.ensures c.write_messages.ensures
 
-pub write-file-spec : {M : Type 1} → statement M
-write-file-spec =
+pub write_file_spec : {M : Type 1} → statement M
+write_file_spec =
     tie.close
     (tie.spec
     (λ c. search rules)

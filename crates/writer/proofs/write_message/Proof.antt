@@ -12,33 +12,26 @@ use borrow.Author.Rules.{rules}
 use Rattle.writer.proofs.write_message.Statement.{statement}
 use Rattle.writer.proofs.write_message.Tie as tie
 
-write-rest-requires : tie.Need-write-rest-requires
+write-rest-requires : tie.Need-write_rest-requires
 write-rest-requires c κs =
-    let sized = c.before in
-    let put = sized.before.before.before in
-    let start = put.before.before.before.before.before in
-    let n = sized.identifier-size.result in
-    let out = put.put-identifier.new.1.0 in
-    (start.requires.0, ap length (tail-part n out) ∙ length-drop n out ∙ omega (arith, sized.identifier-size.ensures.0, start.requires.1, put.put-identifier.auto.1.0))
+    let n = c.identifier_size-behind.result in
+    let out = c.put_identifier.new.out in
+    (c.requires.0, ap length (tail-part n out) ∙ length-drop n out ∙ omega (arith, c.identifier_size-behind.ensures.0, c.requires.1, c.put_identifier.auto.out))
 
 returns : tie.Need-returns
 returns c =
-    let written = c.before.before in
-    let sized = written.before.before in
-    let put = sized.before.before.before in
-    let start = put.before.before.before.before.before in
-    let L = start.args.layout in
-    let out = start.args.out.now in
-    let id = identifier_bytes L (get_or start.args.words.now 0 0) in
-    let long = identifier-length L (get_or start.args.words.now 0 0) in
-    let s = then-set id _ (begun out) put.put-identifier.ensures (omega (arith, long)) in
-    let n = sized.identifier-size.result in
-    let e : length id ≡ n = long ∙ sym sized.identifier-size.ensures.0 in
+    let L = c.args.layout in
+    let out = c.args.out.now in
+    let id = identifier_bytes L (get_or c.args.words.now 0 0) in
+    let long = identifier-length L (get_or c.args.words.now 0 0) in
+    let s = then-set id _ (begun out) c.put_identifier.ensures (omega (arith, long)) in
+    let n = c.identifier_size-behind.result in
+    let e : length id ≡ n = long ∙ sym c.identifier_size-behind.ensures.0 in
     let z : 0 + length id ≡ n = omega (arith, e) in
-    put_rest id (rest_bytes start.args.words.now) out _ _ n (s.is ∙ ap (λ (k : ℕ). id ++ drop k out) z) e written.write-rest.ensures
+    put_rest id (rest_bytes c.args.words.now) out _ _ n (s.is ∙ ap (λ (k : ℕ). id ++ drop k out) z) e c.write_rest.ensures
 
-pub write-message-spec : {M : Type 1} → statement M
-write-message-spec =
+pub write_message_spec : {M : Type 1} → statement M
+write_message_spec =
     tie.close
     (tie.spec
     (λ c. search rules)

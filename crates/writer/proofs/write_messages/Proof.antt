@@ -11,57 +11,52 @@ use borrow.Author.Rules.{rules}
 use Rattle.writer.proofs.write_messages.Statement.{statement}
 use Rattle.writer.proofs.write_messages.Tie as tie
 
-abbrev invariant-loop : tie.invariant-loop
+abbrev invariant-loop : tie.invariant-loop-j
 invariant-loop layout part m out₀ size j₀ out j = (j ≤ m) × Turned (message_bytes layout) 7 size part out₀ j out
 
-abbrev decreases-loop : tie.decreases-loop
+abbrev decreases-loop : tie.decreases-loop-j
 decreases-loop layout part m out₀ size j₀ out j = m - j
 
 -- all records are inside the buffer, and so is the one that is written next
-inside : (c : tie.After-message-size invariant-loop decreases-loop) → c.message-size.result * c.before.before.before.args.m ≤ length c.before.before.before.args.out.now
-inside c = rw c.message-size.ensures.0 c.before.before.before.requires.1
+inside : (c : tie.After-message_size-size invariant-loop decreases-loop) → c.message_size-size.result * c.args.m ≤ length c.args.out.now
+inside c = rw c.message_size-size.ensures.0 c.requires.1
 
-next : (c : tie.In-loop invariant-loop decreases-loop) → let sized = c.before.before in let size = sized.message-size.result in let i = c.before.loop.j in
-    (size * i + size ≤ 1280) × (size * i + size ≤ length sized.before.before.before.args.out.now)
+next : (c : tie.In-loop-j invariant-loop decreases-loop) → let size = c.message_size-size.result in let i = c.loop-j.j in
+    (size * i + size ≤ 1280) × (size * i + size ≤ length c.args.out.now)
 next c =
-    let sized = c.before.before in
-    let args = sized.before.before.before.args in
-    step sized.message-size.result c.before.loop.j args.m (length args.out.now) (omega (arith, sized.message-size.ensures.1)) (omega arith) (omega arith) (inside sized)
+    let args = c.args in
+    step c.message_size-size.result c.loop-j.j args.m (length args.out.now) (omega (arith, c.message_size-size.ensures.1)) (omega arith) (omega arith) (inside c.before.before)
 
-loop-holds : tie.Need-loop-init invariant-loop decreases-loop
+loop-holds : tie.Need-loop-j-init invariant-loop decreases-loop
 loop-holds c = (search rules, turned_none)
 
-mul-to : tie.Need-overflow-mul-to invariant-loop decreases-loop
+mul-to : tie.Need-overflow_mul-to invariant-loop decreases-loop
 mul-to c = omega (arith, (next c).0)
 
-add-write-message-2 : tie.Need-overflow-add-write-message-2 invariant-loop decreases-loop
+add-write-message-2 : tie.Need-overflow_add-to invariant-loop decreases-loop
 add-write-message-2 c = omega (arith, (next c.before).0)
 
-part-write-message-end-2 : tie.Need-slice-bounds-write-message-end-2 invariant-loop decreases-loop
-part-write-message-end-2 c = omega (arith, c.before.before.loop.invariant.1.long, (next c.before).1)
+part-write-message-end-2 : tie.Need-slice_bounds-write_message-end-in-loop-j invariant-loop decreases-loop
+part-write-message-end-2 c = omega (arith, c.loop-j.invariant.1.long, (next c.before).1)
 
-write-message-requires : tie.Need-write-message-requires invariant-loop decreases-loop
+write-message-requires : tie.Need-write_message-requires invariant-loop decreases-loop
 write-message-requires c κs =
-    let at-loop = c.before.before.before in
-    let sized = at-loop.before in
-    let args = sized.before.before.before.args in
-    let parts = turned-parts at-loop.loop.j args.m at-loop.loop.invariant.1 (omega arith) (omega arith) (inside sized) in
-    (parts.0, parts.1 ∙ sized.message-size.ensures.0)
+    let args = c.args in
+    let parts = turned-parts c.loop-j.j args.m c.loop-j.invariant.1 (omega arith) (omega arith) (inside c.before.before.before.before) in
+    (parts.0, parts.1 ∙ c.message_size-size.ensures.0)
 
-loop-again : tie.Need-loop-preserved invariant-loop decreases-loop
+loop-again : tie.Need-loop-j-preserved invariant-loop decreases-loop
 loop-again c =
-    let call = c.before.before.write-message in
-    let at-loop = c.before.before.before.before.before.before in
-    let at = at-loop.loop in
-    let sized = at-loop.before in
-    let layout = sized.before.before.before.args.layout in
-    (search rules, turned_more (λ r. message-length layout r ∙ sym sized.message-size.ensures.0) at.j at.invariant.1 call.ensures call.auto.1.1.0)
+    let call = c.write_message in
+    let at = c.loop-j in
+    let layout = c.args.layout in
+    (search rules, turned_more (λ r. message-length layout r ∙ sym c.message_size-size.ensures.0) at.j at.invariant.1 call.ensures call.auto.out)
 
 returns : tie.Need-returns invariant-loop decreases-loop
-returns c = rw (← c.before.before.message-size.ensures.0) (turned-all c.before.loop.invariant.1 (omega arith))
+returns c = rw (← c.message_size-size.ensures.0) (turned-all c.loop-j.invariant.1 (omega arith))
 
-pub write-messages-spec : {M : Type 1} → statement M
-write-messages-spec =
+pub write_messages_spec : {M : Type 1} → statement M
+write_messages_spec =
     tie.close
     (tie.spec
     invariant-loop

@@ -10,25 +10,19 @@ use Rattle.writer.proofs.write_rest.Tie as tie
 
 returns : tie.Need-returns
 returns c =
-    let at-put-four2 = c.before.before.before.before.before.before.before in
-    let at-put-four = at-put-four2.before.before.before.before.before in
-    let at-put-two = at-put-four.before.before.before.before.before in
-    let at-put-one2 = at-put-two.before.before.before.before.before in
-    let at-put-one = at-put-one2.before.before.before.before.before in
-    let start = at-put-one.before.before.before.before.before in
-    let o = start.args.out.now in
-    let h : length o ≡ 16 = start.requires.1 in
-    let w : ℕ → ℕ = λ i. get_or start.args.words.now i 0 in
-    let s0 = then-set (one (w 1)) _ (begun o) at-put-one.put_one.ensures (omega arith) in
-    let s1 = then-set (one (w 2)) _ s0 at-put-one2.put-one2.ensures (omega arith) in
-    let s2 = then-set (two (w 3)) _ s1 at-put-two.put_two.ensures (omega arith) in
-    let s3 = then-set (four (w 4)) _ s2 at-put-four.put_four.ensures (omega arith) in
-    let s4 = then-set (four (w 5)) _ s3 at-put-four2.put-four2.ensures (omega arith) in
-    let s5 = then-set (four (w 6)) _ s4 c.before.before.put-four3.ensures (omega arith) in
+    let o = c.args.out.now in
+    let h : length o ≡ 16 = c.requires.1 in
+    let w : ℕ → ℕ = λ i. get_or c.args.words.now i 0 in
+    let s0 = then-set (one (w 1)) _ (begun o) c.put_one.ensures (omega arith) in
+    let s1 = then-set (one (w 2)) _ s0 c.put_one-2.ensures (omega arith) in
+    let s2 = then-set (two (w 3)) _ s1 c.put_two.ensures (omega arith) in
+    let s3 = then-set (four (w 4)) _ s2 c.put_four.ensures (omega arith) in
+    let s4 = then-set (four (w 5)) _ s3 c.put_four-2.ensures (omega arith) in
+    let s5 = then-set (four (w 6)) _ s4 c.put_four-3.ensures (omega arith) in
     all_set s5 h
 
-pub write-rest-spec : {M : Type 1} → statement M
-write-rest-spec =
+pub write_rest_spec : {M : Type 1} → statement M
+write_rest_spec =
     tie.close
     (tie.spec
     (λ c. search rules)
