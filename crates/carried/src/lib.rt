@@ -1,4 +1,6 @@
 // What an old plan has for the messages of a new problem, by their identifiers: the placements to keep when a line is extended.
+#![tactic(auto)]
+
 ghost use Rattle.std.specs.Prelude.{◌≡◌, ◌+◌, ◌*◌, ◌<◌, length};
 ghost use Rattle.rules.specs.Problem.{WellFormed, messages as messageCount, most_messages};
 ghost use Rattle.kept.specs.Kept.{none};

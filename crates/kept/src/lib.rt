@@ -1,4 +1,6 @@
 // Placements to keep: a list with two words for each message, a placement or none; and a message given a placement.
+#![tactic(auto)]
+
 ghost use Rattle.std.specs.Prelude.{◌≡◌, ◌*◌, ◌<◌, length};
 ghost use Rattle.rules.specs.Problem.{most_messages, Gives};
 ghost use Rattle.kept.specs.Kept.{keeps as keepsMessage, put};

@@ -1,4 +1,6 @@
 // The places that messages may take, as a table: by themselves, in cells that are not taken, and beside a message that is placed.
+#![tactic(auto)]
+
 ghost use Rattle.std.specs.Prelude.{◌≡◌, ◌*◌, ◌<◌, ◌≤◌, length};
 ghost use Rattle.rules.specs.Refusal.{is_clear};
 ghost use Rattle.rules.specs.Problem.{most_rows, most_columns, messages, repeat};

@@ -1,5 +1,7 @@
 // Prices on cells: a place that costs more than the cells are worth, once each other message has its cheapest place, is in nothing without a fault.
 // Nothing is asked of the prices.
+#![tactic(auto)]
+
 ghost use Rattle.std.specs.Prelude.{◌≡◌, ◌+◌, ◌*◌, ◌<◌, ◌≤◌, length};
 ghost use Rattle.rules.specs.Problem.{most_rows, most_columns, rows, messages};
 ghost use Rattle.places.specs.Places.{most_planned, table_words, Few, Steps};

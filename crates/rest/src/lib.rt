@@ -1,4 +1,6 @@
 // The messages without a kept placement: which they are, the problem that they make by themselves, and one proposal of what is kept and what is found for them.
+#![tactic(auto)]
+
 ghost use Rattle.std.specs.Prelude.{◌≡◌, ◌+◌, ◌*◌, ◌<◌, ◌≤◌, length, take};
 ghost use Rattle.rules.specs.Problem.{WellFormed, messages as messageCount, most_messages};
 ghost use Rattle.places.specs.Places.{most_planned};

@@ -1,4 +1,6 @@
 // Row words: the occupied columns of a row as one word.
+#![tactic(auto)]
+
 ghost use Rattle.std.specs.Prelude.{◌≡◌, ◌<◌, ◌≤◌, length};
 ghost use Rattle.rules.specs.Problem.{most_rows, most_columns};
 ghost use Rattle.row_words.specs.RowWords.{Without, FreeIn, Occupied};

@@ -11,35 +11,35 @@ use borrow.Author.Rules.{rules}
 use Rattle.carried.proofs.carried.Statement.{statement}
 use Rattle.carried.proofs.carried.Tie as tie
 
-abbrev invariant-loop : tie.invariant-loop
+abbrev invariant-loop : tie.invariant-loop-j
 invariant-loop p old w messages k₀ j₀ k j = (j ≤ messages) × (length k ≡ 2 * most_messages) × Carried p old w k j
 
-abbrev decreases-loop : tie.decreases-loop
+abbrev decreases-loop : tie.decreases-loop-j
 decreases-loop p old w messages k₀ j₀ k j = messages - j
 
-loop-holds : tie.Need-loop-init invariant-loop decreases-loop
+loop-holds : tie.Need-loop-j-init invariant-loop decreases-loop
 loop-holds c = (search rules, search rules, carried_none _ _ _ _)
 
-identifier-of-requires : tie.Need-identifier-of-requires invariant-loop decreases-loop
+identifier-of-requires : tie.Need-identifier_of-requires invariant-loop decreases-loop
 identifier-of-requires c κs = member c.before.before.before.before.before.before.requires.0 (omega arith)
 
 put-requires : tie.Need-put-requires invariant-loop decreases-loop
-put-requires c κs = (omega arith, c.before.before.before.before.loop.invariant.1)
+put-requires c κs = (omega arith, c.before.before.before.before.loop-j.invariant.1)
 
-loop-again : tie.Need-loop-preserved invariant-loop decreases-loop
+loop-again : tie.Need-loop-j-preserved invariant-loop decreases-loop
 loop-again c =
-    let inv = c.before.before.before.before.before.loop.invariant in
-    let carries = rw c.before.before.before.identifier-of.ensures.0 at c.before.before.placement-of.ensures in
+    let inv = c.before.before.before.before.before.loop-j.invariant in
+    let carries = rw c.before.before.before.identifier_of.ensures.0 at c.before.before.placement_of-at.ensures in
     rw c.put.ensures (omega arith, simp length-set inv.1, carried-more (omega arith) inv.2 carries)
 
 returns : tie.Need-returns invariant-loop decreases-loop
 returns c =
-    let inv = c.before.loop.invariant in
-    let e : c.before.loop.j ≡ c.before.before.messages-of.result = omega arith in
-    (rw c.before.before.messages-of.ensures.0 at (rw e at inv.2), inv.1)
+    let inv = c.before.loop-j.invariant in
+    let e : c.before.loop-j.j ≡ c.before.before.messages_of-messages.result = omega arith in
+    (rw c.before.before.messages_of-messages.ensures.0 at (rw e at inv.2), inv.1)
 
-pub carried-spec : {M : Type 1} → statement M
-carried-spec =
+pub carried_spec : {M : Type 1} → statement M
+carried_spec =
     tie.close
     (tie.spec
     invariant-loop

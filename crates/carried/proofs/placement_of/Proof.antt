@@ -7,25 +7,25 @@ use borrow.Author.Rules.{rules}
 use Rattle.carried.proofs.placement_of.Statement.{statement}
 use Rattle.carried.proofs.placement_of.Tie as tie
 
-returns : tie.Need-returns
-returns c = carries-none c.before.before.before.before.before.before.requires c.before.before.before.message-of.ensures (omega arith) c.nowhere.ensures.0 c.nowhere.ensures.1
+returns : tie.Need-returns-then-messages_of-i
+returns c = carries-none c.before.before.before.before.before.before.requires c.before.before.before.message_of-i.ensures (omega arith) c.nowhere.ensures.0 c.nowhere.ensures.1
 
-returns-2 : tie.Need-returns-2
+returns-2 : tie.Need-returns-then-not-gives
 returns-2 c =
-    let short = ltb-false _ _ (sym c.before.before.gives.ensures ∙ not-true _ c.before.if2.true) in
-    carries-cut c.before.before.before.before.before.before.before.before.requires c.before.before.before.before.before.message-of.ensures (omega arith) short c.nowhere2.ensures.0 c.nowhere2.ensures.1
+    let short = ltb-false _ _ (sym c.before.before.gives.ensures ∙ not-true _ c.before.if-not-gives.true-raw) in
+    carries-cut c.before.before.before.before.before.before.before.before.requires c.before.before.before.before.before.message_of-i.ensures (omega arith) short c.nowhere-then-not-gives.ensures.0 c.nowhere-then-not-gives.ensures.1
 
-column-of-requires : tie.Need-column-of-requires
-column-of-requires c κs = ltb-true _ _ (sym c.before.gives.ensures ∙ not-false _ c.if2.false)
+column-of-requires : tie.Need-column_of-requires
+column-of-requires c κs = ltb-true _ _ (sym c.before.gives.ensures ∙ not-false _ c.if-not-gives.false-raw)
 
-row-of-requires : tie.Need-row-of-requires
-row-of-requires c κs = ltb-true _ _ (sym c.before.before.gives.ensures ∙ not-false _ c.before.if2.false)
+row-of-requires : tie.Need-row_of-requires
+row-of-requires c κs = ltb-true _ _ (sym c.before.before.gives.ensures ∙ not-false _ c.before.if-not-gives.false-raw)
 
-returns-3 : tie.Need-returns-3
-returns-3 c = carries-at c.before.before.before.before.before.before.before.before.before.requires c.before.before.before.before.before.before.message-of.ensures (omega arith) c.before.column-of.ensures.0 c.row_of.ensures.0
+returns-3 : tie.Need-returns
+returns-3 c = carries-at c.before.before.before.before.before.before.before.before.before.requires c.before.before.before.before.before.before.message_of-i.ensures (omega arith) c.before.column_of.ensures.0 c.row_of.ensures.0
 
-pub placement-of-spec : {M : Type 1} → statement M
-placement-of-spec =
+pub placement_of_spec : {M : Type 1} → statement M
+placement_of_spec =
     tie.close
     (tie.spec
     (λ c κs. search rules)

@@ -5,13 +5,13 @@ use Rattle.lookahead.proofs.has_room.Statement.{statement}
 use Rattle.lookahead.proofs.has_room.Tie as tie
 
 copy-requires : tie.Need-copy-requires
-copy-requires c κs = let pre = c.before.before.requires in (pre.0, (pre.1, refl))
+copy-requires c κs = let pre = c.requires in (pre.0, (pre.1, refl))
 
 possible-requires : tie.Need-possible-requires
-possible-requires c κs = let pre = c.before.before.before.before.before.before.requires in (pre.0, (pre.1, c.before.before.before.copy.ensures.1))
+possible-requires c κs = let pre = c.requires in (pre.0, (pre.1, c.copy.ensures.1))
 
 returns : tie.Need-returns
-returns c = cautious-copied c.before.before.before.before.copy.ensures.0 c.possible.ensures.0
+returns c = cautious-copied c.copy.ensures.0 c.possible.ensures.0
 
-pub has-room-spec : {M : Type 1} → statement M
-has-room-spec = tie.close (tie.spec copy-requires possible-requires returns)
+pub has_room_spec : {M : Type 1} → statement M
+has_room_spec = tie.close (tie.spec copy-requires possible-requires returns)

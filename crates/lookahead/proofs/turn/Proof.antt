@@ -5,21 +5,21 @@ use borrow.Author.Rules.{rules}
 use Rattle.lookahead.proofs.turn.Statement.{statement}
 use Rattle.lookahead.proofs.turn.Tie as tie
 
-element-copy-out-step : tie.Need-element-copy-out-step
-element-copy-out-step c = let pre = c.before.requires in omega (arith, pre.0.most, pre.1.1.0.0)
+element-copy-out-step : tie.Need-bounds-steps-m
+element-copy-out-step c = let pre = c.requires in omega (arith, pre.0.most, pre.1.1.0.0)
 
-first-row-requires : tie.Need-first-row-requires
-first-row-requires c κs = let pre = c.before.before.before.requires in
+first-row-requires : tie.Need-first_row-requires
+first-row-requires c κs = let pre = c.requires in
     (omega (arith, pre.0.most, pre.1.1.0.0), (pre.1.0.each _ pre.1.1.0.0).most)
 
-returns : tie.Need-returns
-returns c = let pre = c.before.before.before.before.before.requires in ((record { inside = λ l. pre.1.1.0.1 }, narrowed-same _ _ _), pre.1.1.1)
+returns : tie.Need-returns-then-step-first_row
+returns c = let pre = c.requires in ((record { inside = λ l. pre.1.1.0.1 }, narrowed-same _ _ _), pre.1.1.1)
 
-returns-2 : tie.Need-returns-2
-returns-2 c = let narrow = c.before.before.tighten.ensures in ((record { inside = λ l. absurd (omega arith) }, narrow.0), narrow.1)
+returns-2 : tie.Need-returns-then-tighten
+returns-2 c = let narrow = c.tighten.ensures in ((record { inside = λ l. absurd (omega arith) }, narrow.0), narrow.1)
 
-returns-3 : tie.Need-returns-3
-returns-3 c = let narrow = c.before.before.before.tighten.ensures in ((c.pick.ensures, narrow.0), narrow.1)
+returns-3 : tie.Need-returns
+returns-3 c = let narrow = c.tighten.ensures in ((c.pick.ensures, narrow.0), narrow.1)
 
 pub turn_spec : {M : Type 1} → statement M
 turn_spec =

@@ -8,24 +8,24 @@ use Rattle.places.proofs.Covering.{AllowedBelow, allowed-none, allowed-set, allo
 use Rattle.places.proofs.allowed_in.Statement.{statement}
 use Rattle.places.proofs.allowed_in.Tie as tie
 
-abbrev invariant-loop : tie.invariant-loop
+abbrev invariant-loop : tie.invariant-loop-c
 invariant-loop p taken j step r columns x₀ c₀ x c = AllowedBelow p j r c x
 
-abbrev decreases-loop : tie.decreases-loop
+abbrev decreases-loop : tie.decreases-loop-c
 decreases-loop p taken j step r columns x₀ c₀ x c = columns - c
 
-loop-holds : tie.Need-loop-init invariant-loop decreases-loop
+loop-holds : tie.Need-loop-c-init invariant-loop decreases-loop
 loop-holds c = allowed-none _ _ _
 
-loop-again : tie.Need-loop-preserved invariant-loop decreases-loop
+loop-again : tie.Need-loop-c-preserved invariant-loop decreases-loop
 loop-again c =
-    let inv = c.before.before.before.loop.invariant in
+    let inv = c.before.before.before.loop-c.invariant in
     ⊎_elim
-    (λ w. rw w.2 (allowed-set _ _ _ inv c.before.may-stand.ensures w.0.taken w.1.ensures))
-    (λ w. rw w.1 (allowed-skip _ _ _ inv c.before.may-stand.ensures w.0.left))
-    c.if1.branch
+    (λ w. rw w.x-is (allowed-set _ _ _ inv c.before.may_stand.ensures w.if-may_stand.true w.with_bit-x.ensures))
+    (λ w. rw w.x-is (allowed-skip _ _ _ inv c.before.may_stand.ensures w.if-may_stand.false))
+    c.if-may_stand.branch-raw
 
-free-in-requires : tie.Need-free-in-requires invariant-loop decreases-loop
+free-in-requires : tie.Need-free_in-requires invariant-loop decreases-loop
 free-in-requires c κs =
     let asked = c.before.before.before.before.before.requires in
     let low = repeat-least asked.0 in
@@ -36,10 +36,10 @@ returns : tie.Need-returns invariant-loop decreases-loop
 returns c =
     let looped = c.before.before.before in
     let asked = looped.before.before.before.requires in
-    allowed_all _ _ _ asked.0.formed.header.columns-most (omega arith) looped.loop.invariant asked.1 c.before.rows_of_lem.ensures.0 c.Free-in.ensures
+    allowed_all _ _ _ asked.0.formed.header.columns-most (omega arith) looped.loop-c.invariant asked.1 c.before.rows_of.ensures.0 c.free_in.ensures
 
-pub allowed-in-spec : {M : Type 1} → statement M
-allowed-in-spec =
+pub allowed_in_spec : {M : Type 1} → statement M
+allowed_in_spec =
     tie.close
     (tie.spec
     invariant-loop

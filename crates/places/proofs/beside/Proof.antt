@@ -7,5 +7,5 @@ use Rattle.places.proofs.beside.Tie as tie
 returns : tie.Need-returns
 returns c = (beside-copied c.before.before.copy.ensures.0 c.strike.ensures.0, c.strike.ensures.1)
 
-pub beside-spec : {M : Type 1} → statement M
-beside-spec = tie.close (tie.spec (λ c κs. search rules) (λ c κs. search rules) returns)
+pub beside_spec : {M : Type 1} → statement M
+beside_spec = tie.close (tie.spec (λ c κs. search rules) (λ c κs. search rules) returns)

@@ -5,14 +5,14 @@ use borrow.Author.Rules.{rules}
 use Rattle.places.proofs.count_of.Statement.{statement}
 use Rattle.places.proofs.count_of.Tie as tie
 
-abbrev invariant-loop : tie.invariant-loop
+abbrev invariant-loop : tie.invariant-loop-r
 invariant-loop table j step n₀ r₀ n r = (r ≤ step) × (n ≤ most_columns * r)
 
-abbrev decreases-loop : tie.decreases-loop
+abbrev decreases-loop : tie.decreases-loop-r
 decreases-loop table j step n₀ r₀ n r = step - r
 
-pub count-of-spec : {M : Type 1} → statement M
-count-of-spec =
+pub count_of_spec : {M : Type 1} → statement M
+count_of_spec =
     tie.close
     (tie.spec
     invariant-loop

@@ -16,102 +16,89 @@ use borrow.Author.Rules.{rules}
 use Rattle.places.proofs.strike.Statement.{statement}
 use Rattle.places.proofs.strike.Tie as tie
 
-abbrev invariant-loop2 : tie.invariant-loop2
+abbrev invariant-loop2 : tie.invariant-loop-i
 invariant-loop2 p steps table₀ left m c r count j step common i₀ table i =
     (i < step + common) × (length table ≡ table_words) × (i % common ≡ r % common) × Row (Spared p m c r j) j (min i most_rows) table₀ table
 
-abbrev decreases-loop2 : tie.decreases-loop2
+abbrev decreases-loop2 : tie.decreases-loop-i
 decreases-loop2 p steps table₀ left m c r count j step common i₀ table i = step - i
 
-abbrev invariant-loop : tie.invariant-loop
+abbrev invariant-loop : tie.invariant-loop-j
 invariant-loop p steps table₀ left m c r count j₀ table j =
     (j ≤ count) × (length table ≡ table_words) × Made p (λ k i x z. Has left k → Spared p m c r k i x z) j table₀ table
 
-abbrev decreases-loop : tie.decreases-loop
+abbrev decreases-loop : tie.decreases-loop-j
 decreases-loop p steps table₀ left m c r count j₀ table j = count - j
 
--- from where the smaller repeat is computed back to the message and to the call's start
-abbrev message : tie.After-smaller invariant-loop2 decreases-loop2 invariant-loop decreases-loop → tie.At-loop invariant-loop2 decreases-loop2 invariant-loop decreases-loop
-message c = c.before.before.before.before.before.before
-
-abbrev begun : tie.At-loop invariant-loop2 decreases-loop2 invariant-loop decreases-loop → tie.Start invariant-loop2 decreases-loop2 invariant-loop decreases-loop
-begun c = c.before.before.before
-
 -- it is that of the two messages
-both : (c : tie.After-smaller invariant-loop2 decreases-loop2 invariant-loop decreases-loop) → Shared (begun (message c)).args.p.now (begun (message c)).args.m (message c).loop.j c.smaller.result
-both c = let asked = (begun (message c)).pre in shared asked.1.0 asked.1.1.0.0 (omega arith) c.smaller.ensures
+both : (c : tie.After-smaller-common invariant-loop2 decreases-loop2 invariant-loop decreases-loop) → Shared c.args.p.now c.args.m c.loop-j.j c.smaller-common.result
+both c = let asked = c.requires in shared asked.1.0 asked.1.1.0.0 (omega arith) c.smaller-common.ensures
 
-loop-holds : tie.Need-loop-init invariant-loop2 decreases-loop2 invariant-loop decreases-loop
+loop-holds : tie.Need-loop-j-init invariant-loop2 decreases-loop2 invariant-loop decreases-loop
 loop-holds c = (search rules, c.before.before.requires.1.1.1, made-start _ _ _)
 
-element-copy-out-step : tie.Need-element-copy-out-step invariant-loop2 decreases-loop2 invariant-loop decreases-loop
+element-copy-out-step : tie.Need-bounds-steps-j invariant-loop2 decreases-loop2 invariant-loop decreases-loop
 element-copy-out-step c = omega (arith, c.before.before.before.before.before.before.requires.0.most)
 
-element-copy-out-smaller : tie.Need-element-copy-out-smaller invariant-loop2 decreases-loop2 invariant-loop decreases-loop
+element-copy-out-smaller : tie.Need-bounds-steps-m invariant-loop2 decreases-loop2 invariant-loop decreases-loop
 element-copy-out-smaller c = omega (arith, c.before.before.before.before.before.before.before.requires.0.most)
 
-rem-i : tie.Need-nonzero-rem-i invariant-loop2 decreases-loop2 invariant-loop decreases-loop
+rem-i : tie.Need-nonzero_rem-i invariant-loop2 decreases-loop2 invariant-loop decreases-loop
 rem-i c = (both c).some
 
-loop2-holds : tie.Need-loop2-init invariant-loop2 decreases-loop2 invariant-loop decreases-loop
+loop2-holds : tie.Need-loop-i-init invariant-loop2 decreases-loop2 invariant-loop decreases-loop
 loop2-holds c =
-    let r = (begun (message c)).args.r in
-    let h : r % c.smaller.result < c.smaller.result = mod-lt r (both c).some in
-    (omega (arith, h), (message c).loop.invariant.1, mod-eq_of_lt h, strike-start _ _ _ _ _ (both c) _)
+    let r = c.args.r in
+    let h : r % c.smaller-common.result < c.smaller-common.result = mod-lt r (both c).some in
+    (omega (arith, h), c.loop-j.invariant.1, mod-eq_of_lt h, strike-start _ _ _ _ _ (both c) _)
 
-table-at-requires : tie.Need-table-at-requires invariant-loop2 decreases-loop2 invariant-loop decreases-loop
+table-at-requires : tie.Need-table_at-k-requires invariant-loop2 decreases-loop2 invariant-loop decreases-loop
 table-at-requires c κs =
-    let outer = message c.before.before in
-    let asked = (begun outer).pre in
-    (omega (arith, asked.0.most), omega (arith, (asked.1.0.each outer.loop.j (omega arith)).most))
+    let asked = c.requires in
+    (omega (arith, asked.0.most), omega (arith, (asked.1.0.each c.loop-j.j (omega arith)).most))
 
-add-i : tie.Need-overflow-add-i invariant-loop2 decreases-loop2 invariant-loop decreases-loop
+add-i : tie.Need-overflow_add-i invariant-loop2 decreases-loop2 invariant-loop decreases-loop
 add-i c =
-    let known = c.before.before.before.before.before in
-    let outer = message known in
-    omega (arith, (both known).most, ((begun outer).pre.1.0.each outer.loop.j (omega arith)).most)
+    let known = c.before.before.before.before.before.before in
+    omega (arith, (both known).most, (c.requires.1.0.each c.loop-j.j (omega arith)).most)
 
-loop2-less : tie.Need-loop2-smaller invariant-loop2 decreases-loop2 invariant-loop decreases-loop
+loop2-less : tie.Need-loop-i-smaller invariant-loop2 decreases-loop2 invariant-loop decreases-loop
 loop2-less c =
-    let known = c.before.before.before.before.before in
-    let outer = message known in
-    omega (arith, (both known).some, ((begun outer).pre.1.0.each outer.loop.j (omega arith)).least)
+    let known = c.before.before.before.before.before.before in
+    omega (arith, (both known).some, (c.requires.1.0.each c.loop-j.j (omega arith)).least)
 
-loop2-again : tie.Need-loop2-preserved invariant-loop2 decreases-loop2 invariant-loop decreases-loop
+loop2-again : tie.Need-loop-i-preserved invariant-loop2 decreases-loop2 invariant-loop decreases-loop
 loop2-again c =
     let inner = c.before.before.before.before in
-    let inv = inner.loop2.invariant in
-    let outer = message inner.before in
-    let often = (begun outer).pre.1.0.each outer.loop.j (omega arith) in
-    let at = c.before.before.table_at.ensures.0 in (
+    let inv = inner.loop-i.invariant in
+    let often = c.requires.1.0.each c.loop-j.j (omega arith) in
+    let at = c.before.before.table_at-k.ensures.0 in (
       omega arith,
       simp length-set inv.1,
       add-mod_right _ _ ∙ inv.2,
-      strike-next _ _ _ _ _ (both inner.before) _ _ (omega (arith, often.most)) inv.2 at (omega arith) c.clear-bit.ensures inv.3,
+      strike-next _ _ _ _ _ (both inner.before.before) _ _ (omega (arith, often.most)) inv.2 at (omega arith) c.clear_bit.ensures inv.3,
     )
 
-loop-again : tie.Need-loop-preserved invariant-loop2 decreases-loop2 invariant-loop decreases-loop
+loop-again : tie.Need-loop-j-preserved invariant-loop2 decreases-loop2 invariant-loop decreases-loop
 loop-again c =
-    let outer = c.before.before.before in
-    let inv = outer.loop.invariant in
-    let start = begun outer in
-    let often = start.pre.1.0.each outer.loop.j (omega arith) in (
+    let inv = c.loop-j.invariant in
+    let often = c.requires.1.0.each c.loop-j.j (omega arith) in (
       omega arith,
-      ⊎_elim (λ w. rw w.6 w.4.inv.1) (λ w. rw w.1 inv.1) c.if1.branch,
+      ⊎_elim (λ w. rw w.table-is w.loop-i.invariant.1) (λ w. rw w.table-is inv.1) c.if-has_bit.branch-raw,
       ⊎_elim
           (λ w.
-          let row = w.4.inv.3 in
-          rw w.6
-          (made_more _ _ _ _ start.pre.0 (omega arith) (omega (arith, often.is, often.most, w.5.left)) (omega arith) (record { here = λ i l h. row.here i l; others = row.others }) inv.2))
-          (λ w. rw w.1 (made-skip _ _ _ (λ i x y h. absurd (eqb-false _ _ (sym c.before.has-bit.ensures ∙ w.0.left) h)) inv.2))
-          c.if1.branch,
+          let row = w.loop-i.invariant.3 in
+          rw w.table-is
+          (made_more _ _ _ _ c.requires.0 (omega arith) (omega (arith, often.is, often.most, w.loop-i-test.false)) (omega arith) (record { here = λ i l h. row.here i l; others = row.others }) inv.2))
+          (λ w. rw w.table-is (made-skip _ _ _ (λ i x y h. absurd (eqb-false _ _ (sym c.before.has_bit.ensures ∙ w.if-has_bit.false) h)) inv.2))
+          c.if-has_bit.branch-raw,
     )
 
 returns : tie.Need-returns invariant-loop2 decreases-loop2 invariant-loop decreases-loop
-returns c = (record { each = λ j i l h g. c.before.loop.invariant.2.earlier j (omega arith) i g h }, c.before.loop.invariant.1)
+returns c = (record { each = λ j i l h g. c.before.loop-j.invariant.2.earlier j (omega arith) i g h }, c.before.loop-j.invariant.1)
 
-pub strike-spec : {M : Type 1} → statement M
-strike-spec =
+pub strike_spec : {M : Type 1} → statement M
+strike_spec =
     tie.close
     (tie.spec
     invariant-loop2

@@ -11,41 +11,41 @@ use Rattle.prices.proofs.Levels.{Filled, filled_none, filled_next, level-filled,
 use Rattle.prices.proofs.add_up.Statement.{statement}
 use Rattle.prices.proofs.add_up.Tie as tie
 
-abbrev invariant-loop : tie.invariant-loop
+abbrev invariant-loop : tie.invariant-loop-k
 invariant-loop p prices sums₀ n k₀ sums k = (length sums ≡ most_sums) × Filled prices n k sums
 
-abbrev decreases-loop : tie.decreases-loop
+abbrev decreases-loop : tie.decreases-loop-k
 decreases-loop p prices sums₀ n k₀ sums k = n - k
 
-abbrev invariant-loop2 : tie.invariant-loop2
+abbrev invariant-loop2 : tie.invariant-loop-n
 invariant-loop2 p prices sums₀ n₀ k sums n = (length sums ≡ most_sums) × (n ≤ most_cells) × Levels prices (rows p) n sums
 
-abbrev decreases-loop2 : tie.decreases-loop2
+abbrev decreases-loop2 : tie.decreases-loop-n
 decreases-loop2 p prices sums₀ n₀ k sums n = n
 
-loop-holds : tie.Need-loop-init invariant-loop decreases-loop invariant-loop2 decreases-loop2
+loop-holds : tie.Need-loop-k-init invariant-loop decreases-loop invariant-loop2 decreases-loop2
 loop-holds c = (search rules, filled_none _ _ _)
 
-loop-again : tie.Need-loop-preserved invariant-loop decreases-loop invariant-loop2 decreases-loop2
+loop-again : tie.Need-loop-k-preserved invariant-loop decreases-loop invariant-loop2 decreases-loop2
 loop-again c =
-    let inv = c.before.before.before.loop.invariant in
+    let inv = c.before.before.before.loop-k.invariant in
     (simp length-set inv.0, filled_next _ _ (omega arith) c.wide.ensures.0 inv.1)
 
-loop2-holds : tie.Need-loop2-init invariant-loop decreases-loop invariant-loop2 decreases-loop2
+loop2-holds : tie.Need-loop-n-init invariant-loop decreases-loop invariant-loop2 decreases-loop2
 loop2-holds c =
-    let inv = c.before.loop.invariant in
+    let inv = c.before.loop-k.invariant in
     (inv.0, omega arith, levels-rows c.before.before.before.before.requires.0 (omega arith) (level-filled _ _ (omega arith) (omega arith) inv.1))
 
-loop2-again : tie.Need-loop2-preserved invariant-loop decreases-loop invariant-loop2 decreases-loop2
+loop2-again : tie.Need-loop-n-preserved invariant-loop decreases-loop invariant-loop2 decreases-loop2
 loop2-again c =
-    let inv = c.before.before.before.loop2.invariant in
+    let inv = c.before.before.before.loop-n.invariant in
     (c.halve.ensures.1, omega arith, levels-next (omega arith) (omega arith) c.halve.ensures.0 inv.2)
 
 returns : tie.Need-returns invariant-loop decreases-loop invariant-loop2 decreases-loop2
-returns c = (levels-all c.before.before.before.before.before.before.requires.0 (omega arith) c.before.loop2.invariant.2, c.before.loop2.invariant.0)
+returns c = (levels-all c.before.before.before.before.before.before.requires.0 (omega arith) c.before.loop-n.invariant.2, c.before.loop-n.invariant.0)
 
-pub add-up-spec : {M : Type 1} → statement M
-add-up-spec =
+pub add_up_spec : {M : Type 1} → statement M
+add_up_spec =
     tie.close
     (tie.spec
     invariant-loop

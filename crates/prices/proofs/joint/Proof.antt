@@ -10,25 +10,25 @@ use Rattle.prices.proofs.Joining.{joint-none, joint-next, joint-all}
 use Rattle.prices.proofs.joint.Statement.{statement}
 use Rattle.prices.proofs.joint.Tie as tie
 
-abbrev invariant-loop : tie.invariant-loop
+abbrev invariant-loop : tie.invariant-loop-i
 invariant-loop p steps table left n u₀ i₀ u i = (length u ≡ most_rows) × (i ≤ n) × Joint p table left i u
 
-abbrev decreases-loop : tie.decreases-loop
+abbrev decreases-loop : tie.decreases-loop-i
 decreases-loop p steps table left n u₀ i₀ u i = n - i
 
-loop-holds : tie.Need-loop-init invariant-loop decreases-loop
+loop-holds : tie.Need-loop-i-init invariant-loop decreases-loop
 loop-holds c = (refl, omega arith, joint-none _ _ _ _)
 
-loop-again : tie.Need-loop-preserved invariant-loop decreases-loop
+loop-again : tie.Need-loop-i-preserved invariant-loop decreases-loop
 loop-again c =
-    let inv = c.before.before.loop.invariant in
-    (simp length-set inv.0, omega arith, joint-next _ _ _ (omega arith) c.joint-in.ensures inv.2)
+    let inv = c.before.before.loop-i.invariant in
+    (simp length-set inv.0, omega arith, joint-next _ _ _ (omega arith) c.joint_in.ensures inv.2)
 
 returns : tie.Need-returns invariant-loop decreases-loop
-returns c = joint-all _ _ _ (omega arith) c.before.loop.invariant.2
+returns c = joint-all _ _ _ (omega arith) c.before.loop-i.invariant.2
 
-pub joint-spec : {M : Type 1} → statement M
-joint-spec =
+pub joint_spec : {M : Type 1} → statement M
+joint_spec =
     tie.close
     (tie.spec
     invariant-loop

@@ -9,41 +9,41 @@ use Rattle.prices.proofs.Joining.{joint-in-none, joint-in-set, joint-in-skip, jo
 use Rattle.prices.proofs.joint_in.Statement.{statement}
 use Rattle.prices.proofs.joint_in.Tie as tie
 
-abbrev invariant-loop : tie.invariant-loop
+abbrev invariant-loop : tie.invariant-loop-j
 invariant-loop p steps table left i count x₀ j₀ x j = (j ≤ count) × JointIn p table left i j x
 
-abbrev decreases-loop : tie.decreases-loop
+abbrev decreases-loop : tie.decreases-loop-j
 decreases-loop p steps table left i count x₀ j₀ x j = count - j
 
-loop-holds : tie.Need-loop-init invariant-loop decreases-loop
+loop-holds : tie.Need-loop-j-init invariant-loop decreases-loop
 loop-holds c = (omega arith, joint-in-none _ _ _ _)
 
-rem-table-at : tie.Need-nonzero-rem-table-at invariant-loop decreases-loop
+rem-table-at : tie.Need-nonzero_rem-i invariant-loop decreases-loop
 rem-table-at c =
-    let s = c.before.before.before.before.before.before.before.requires.1.0.each c.before.before.before.before.loop.j (omega arith) in
+    let s = c.before.before.before.before.before.before.before.requires.1.0.each c.before.before.before.before.loop-j.j (omega arith) in
     omega (arith, s.least)
 
-table-at-requires : tie.Need-table-at-requires invariant-loop decreases-loop
+table-at-requires : tie.Need-table_at-requires invariant-loop decreases-loop
 table-at-requires c κs =
-    let s = c.before.before.before.before.before.before.before.requires.1.0.each c.before.before.before.before.loop.j (omega arith) in
+    let s = c.before.before.before.before.before.before.before.requires.1.0.each c.before.before.before.before.loop-j.j (omega arith) in
     (omega arith, le_trans (mod-lt _ s.least) s.most)
 
-loop-again : tie.Need-loop-preserved invariant-loop decreases-loop
+loop-again : tie.Need-loop-j-preserved invariant-loop decreases-loop
 loop-again c =
-    let inv = c.before.before.before.loop.invariant in
-    let s = c.before.before.before.before.before.before.requires.1.0.each c.before.before.before.loop.j (omega arith) in (
+    let inv = c.before.before.before.loop-j.invariant in
+    let s = c.before.before.before.before.before.before.requires.1.0.each c.before.before.before.loop-j.j (omega arith) in (
       omega arith,
       ⊎_elim
-          (λ w. rw w.4 (joint-in-set _ _ _ _ s.is w.2.ensures.0 inv.1))
-          (λ w. rw w.1 (joint-in-skip _ _ _ _ c.before.has-bit.ensures w.0.left inv.1))
-          c.if1.branch,
+          (λ w. rw w.x-is (joint-in-set _ _ _ _ s.is w.table_at.ensures.0 inv.1))
+          (λ w. rw w.x-is (joint-in-skip _ _ _ _ c.before.has_bit.ensures w.if-has_bit.false inv.1))
+          c.if-has_bit.branch-raw,
     )
 
 returns : tie.Need-returns invariant-loop decreases-loop
-returns c = joint-in-all _ _ _ _ (omega arith) c.before.loop.invariant.1
+returns c = joint-in-all _ _ _ _ (omega arith) c.before.loop-j.invariant.1
 
-pub joint-in-spec : {M : Type 1} → statement M
-joint-in-spec =
+pub joint_in_spec : {M : Type 1} → statement M
+joint_in_spec =
     tie.close
     (tie.spec
     invariant-loop

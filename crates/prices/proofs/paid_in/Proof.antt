@@ -7,26 +7,26 @@ use Rattle.prices.proofs.Paying.{paid-start, paid-clear}
 use Rattle.prices.proofs.paid_in.Statement.{statement}
 use Rattle.prices.proofs.paid_in.Tie as tie
 
-abbrev invariant-loop : tie.invariant-loop
+abbrev invariant-loop : tie.invariant-loop-z
 invariant-loop sums step r x others most kept₀ z₀ kept z = PaidIn sums step r others most x kept
 
-abbrev decreases-loop : tie.decreases-loop
+abbrev decreases-loop : tie.decreases-loop-z
 decreases-loop sums step r x others most kept₀ z₀ kept z = z
 
-loop-holds : tie.Need-loop-init invariant-loop decreases-loop
+loop-holds : tie.Need-loop-z-init invariant-loop decreases-loop
 loop-holds c = paid-start _ _ _ _ _ _
 
-loop-again : tie.Need-loop-preserved invariant-loop decreases-loop
+loop-again : tie.Need-loop-z-preserved invariant-loop decreases-loop
 loop-again c =
-    let inv = c.before.before.before.before.before.before.before.before.before.loop.invariant in
-    let at = c.before.before.before.before.before.sum-at.ensures.0 in
+    let inv = c.before.before.before.before.before.before.before.before.before.loop-z.invariant in
+    let at = c.before.before.before.before.before.sum_at.ensures.0 in
     ⊎_elim
-    (λ w. rw w.2 (paid-clear at (omega arith) (omega arith) w.1.ensures inv))
-    (λ w. rw w.1 inv)
-    c.before.if1.branch
+    (λ w. rw w.kept-is (paid-clear at (omega arith) (omega arith) w.clear_bit-kept.ensures inv))
+    (λ w. rw w.kept-is inv)
+    c.before.if-most-others.branch-raw
 
-pub paid-in-spec : {M : Type 1} → statement M
-paid-in-spec =
+pub paid_in_spec : {M : Type 1} → statement M
+paid_in_spec =
     tie.close
     (tie.spec
     invariant-loop

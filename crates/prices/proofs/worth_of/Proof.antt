@@ -7,25 +7,25 @@ use Rattle.prices.proofs.Worths.{worth-none, worth-next, worth-all}
 use Rattle.prices.proofs.worth_of.Statement.{statement}
 use Rattle.prices.proofs.worth_of.Tie as tie
 
-abbrev invariant-loop : tie.invariant-loop
+abbrev invariant-loop : tie.invariant-loop-i
 invariant-loop p prices u n t₀ i₀ t i = (i ≤ n) × (t ≤ row_worth * i) × (worth prices i u ≤ t)
 
-abbrev decreases-loop : tie.decreases-loop
+abbrev decreases-loop : tie.decreases-loop-i
 decreases-loop p prices u n t₀ i₀ t i = n - i
 
-loop-holds : tie.Need-loop-init invariant-loop decreases-loop
+loop-holds : tie.Need-loop-i-init invariant-loop decreases-loop
 loop-holds c = (omega arith, omega arith, worth-none _ _)
 
-loop-again : tie.Need-loop-preserved invariant-loop decreases-loop
+loop-again : tie.Need-loop-i-preserved invariant-loop decreases-loop
 loop-again c =
-    let inv = c.before.before.before.loop.invariant in
-    (omega arith, omega arith, worth-next _ _ _ c.worth-in.ensures.0 inv.2)
+    let inv = c.before.before.before.loop-i.invariant in
+    (omega arith, omega arith, worth-next _ _ _ c.worth_in-t.ensures.0 inv.2)
 
 returns : tie.Need-returns invariant-loop decreases-loop
-returns c = (worth-all _ _ _ _ (omega arith) c.before.loop.invariant.2, omega arith)
+returns c = (worth-all _ _ _ _ (omega arith) c.before.loop-i.invariant.2, omega arith)
 
-pub worth-of-spec : {M : Type 1} → statement M
-worth-of-spec =
+pub worth_of_spec : {M : Type 1} → statement M
+worth_of_spec =
     tie.close
     (tie.spec
     invariant-loop

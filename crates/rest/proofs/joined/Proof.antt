@@ -10,40 +10,37 @@ use borrow.Author.Rules.{rules}
 use Rattle.rest.proofs.joined.Statement.{statement}
 use Rattle.rest.proofs.joined.Tie as tie
 
-abbrev invariant-loop : tie.invariant-loop
+abbrev invariant-loop : tie.invariant-loop-s
 invariant-loop kept numbers count plan messages w₀ s₀ w s = (s ≤ count) × (length w ≡ 2 * most_messages) × Joined kept numbers s plan messages w
 
-abbrev decreases-loop : tie.decreases-loop
+abbrev decreases-loop : tie.decreases-loop-s
 decreases-loop kept numbers count plan messages w₀ s₀ w s = count - s
 
-loop-holds : tie.Need-loop-init invariant-loop decreases-loop
+loop-holds : tie.Need-loop-s-init invariant-loop decreases-loop
 loop-holds c =
-    let copied = c.before.copy-words.ensures in
-    let start = c.before.before.before.before in (
+    let copied = c.copy_words.ensures in (
       search rules,
-      c.w2.given,
-      joined-none _ start.requires.0.1 copied,
+      c.w-2-1.given,
+      joined-none _ c.requires.0.1 copied,
     )
 
 put-requires : tie.Need-put-requires invariant-loop decreases-loop
 put-requires c κs =
-    let at = c.before.before.before.before.before.loop in
-    let start = c.before.before.before.before.before.before.before.before.before.before in
-    (omega (arith, start.requires.1.0.below at.s (omega arith)), at.invariant.1)
+    let at = c.loop-s in
+    (omega (arith, c.requires.1.0.below at.s (omega arith)), at.invariant.1)
 
-loop-again : tie.Need-loop-preserved invariant-loop decreases-loop
+loop-again : tie.Need-loop-s-preserved invariant-loop decreases-loop
 loop-again c =
-    let inv = c.before.before.before.before.before.before.loop.invariant in
-    let start = c.before.before.before.before.before.before.before.before.before.before.before in
-    rw c.put.ensures (omega arith, simp length-set inv.1, joined-more start.requires.1.0 (omega arith) (omega arith) inv.1 inv.2)
+    let inv = c.loop-s.invariant in
+    rw c.put.ensures (omega arith, simp length-set inv.1, joined-more c.requires.1.0 (omega arith) (omega arith) inv.1 inv.2)
 
 returns : tie.Need-returns invariant-loop decreases-loop
 returns c =
-    let e : c.before.loop.s ≡ c.before.before.before.before.before.before.args.count = omega arith in
-    (rw e at c.before.loop.invariant.2, c.before.loop.invariant.1)
+    let e : c.loop-s.s ≡ c.args.count = omega arith in
+    (rw e at c.loop-s.invariant.2, c.loop-s.invariant.1)
 
-pub joined-spec : {M : Type 1} → statement M
-joined-spec =
+pub joined_spec : {M : Type 1} → statement M
+joined_spec =
     tie.close
     (tie.spec
     invariant-loop

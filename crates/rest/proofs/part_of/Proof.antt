@@ -11,58 +11,47 @@ use borrow.Author.Rules.{rules}
 use Rattle.rest.proofs.part_of.Statement.{statement}
 use Rattle.rest.proofs.part_of.Tie as tie
 
-abbrev invariant-loop : tie.invariant-loop
+abbrev invariant-loop : tie.invariant-loop-s
 invariant-loop p numbers count q₀ columns front s₀ q s = (s ≤ count) × (length q ≡ length q₀) × Begun p numbers count s q
 
-abbrev decreases-loop : tie.decreases-loop
+abbrev decreases-loop : tie.decreases-loop-s
 decreases-loop p numbers count q₀ columns front s₀ q s = count - s
 
-slice-aggregate-copy-words : tie.Need-slice-aggregate-copy-words invariant-loop decreases-loop
-slice-aggregate-copy-words c = sym (length-take-le c.before.column-at.result c.before.before.before.before.before.args.p.now (omega arith))
+slice-aggregate-copy-words : tie.Need-slice_bounds-copy_words-end invariant-loop decreases-loop
+slice-aggregate-copy-words c = sym (length-take-le c.column_at-front.result c.args.p.now (omega arith))
 
-copy-words-requires : tie.Need-copy-words-requires invariant-loop decreases-loop
+copy-words-requires : tie.Need-copy_words-requires invariant-loop decreases-loop
 copy-words-requires c κs =
-    let at_front = c.before.before in
-    let start = at_front.before.before.before.before in
-    omega (arith, length-take-le at_front.column-at.result start.args.p.now (omega arith))
+    omega (arith, length-take-le c.column_at-front.result c.args.p.now (omega arith))
 
-loop-holds : tie.Need-loop-init invariant-loop decreases-loop
+loop-holds : tie.Need-loop-s-init invariant-loop decreases-loop
 loop-holds c =
-    let at_front = c.before.before.before.before.before in
-    let p = at_front.before.before.before.before.args.p.now in
-    let front-is : at_front.column-at.result ≡ column_at (columns p) = omega arith in
-    (search rules, refl, begun-none _ front-is (omega arith) c.before.before.copy-words.ensures)
+    let p = c.args.p.now in
+    let front-is : c.column_at-front.result ≡ column_at (columns p) = omega arith in
+    (search rules, refl, begun-none _ front-is (omega arith) c.copy_words.ensures)
 
-copy-message-requires : tie.Need-copy-message-requires invariant-loop decreases-loop
+copy-message-requires : tie.Need-copy_message-requires invariant-loop decreases-loop
 copy-message-requires c κs =
-    let at-loop = c.before.before.before in
-    let at-write = at-loop.before.before in
-    let start = at-write.before.before.before.before.before.before.before.before in
-    let room : part_words ≤ length at-loop.loop.q = omega (arith, at-loop.loop.invariant.1, length-set at-write.before.copy-words.new.1.0 count_at start.args.count, at-write.q.given) in
-    (start.requires.0.0, start.requires.0.1.below at-loop.loop.s (omega arith), omega arith, room)
+    let room : part_words ≤ length c.loop-s.q = omega (arith, c.loop-s.invariant.1, length-set c.copy_words.new.to count_at c.args.count, c.q-1.given) in
+    (c.requires.0.0, c.requires.0.1.below c.loop-s.s (omega arith), omega arith, room)
 
-loop-again : tie.Need-loop-preserved invariant-loop decreases-loop
+loop-again : tie.Need-loop-s-preserved invariant-loop decreases-loop
 loop-again c =
-    let at-loop = c.before.before.before.before.before.before in
-    let stored = c.before.before.copy-message.ensures in
-    (omega arith, stored.long ∙ at-loop.loop.invariant.1, begun_more stored at-loop.loop.invariant.2)
+    let stored = c.copy_message.ensures in
+    (omega arith, stored.long ∙ c.loop-s.invariant.1, begun_more stored c.loop-s.invariant.2)
 
-same_length : tie.Need-same-length invariant-loop decreases-loop
+same_length : tie.Need-shape_of-q invariant-loop decreases-loop
 same_length c =
-    let at-loop = c.before.before in
-    let at-write = at-loop.before.before in
-    at-loop.loop.invariant.1 ∙ length-set at-write.before.copy-words.new.1.0 count_at _ ∙ at-write.q.given
+    c.loop-s.invariant.1 ∙ length-set c.copy_words.new.to count_at _ ∙ c.q-1.given
 
 returns : tie.Need-returns invariant-loop decreases-loop
 returns c =
-    let at-loop = c.before.before in
-    let start = at-loop.before.before.before.before.before.before.before.before.before.before in
-    let done : at-loop.loop.s ≡ start.args.count = omega arith in
-    let room : c.message-at.result ≤ length at-loop.loop.q = omega (arith, same_length c) in
-    (room, begun-part (omega arith) room (rw done at at-loop.loop.invariant.2))
+    let done : c.loop-s.s ≡ c.args.count = omega arith in
+    let room : c.message_at.result ≤ length c.loop-s.q = omega (arith, same_length c) in
+    (room, begun-part (omega arith) room (rw done at c.loop-s.invariant.2))
 
-pub part-of-spec : {M : Type 1} → statement M
-part-of-spec =
+pub part_of_spec : {M : Type 1} → statement M
+part_of_spec =
     tie.close
     (tie.spec
     invariant-loop

@@ -8,26 +8,26 @@ use borrow.Author.Rules.{rules}
 use Rattle.row_words.proofs.occupy.Statement.{statement}
 use Rattle.row_words.proofs.occupy.Tie as tie
 
-abbrev invariant-loop : tie.invariant-loop
+abbrev invariant-loop : tie.invariant-loop-i
 invariant-loop taken₀ rows step c r column seen₀ i₀ taken seen i = (i < 2 * most_rows) × Marking taken₀ c r step rows i seen taken
 
-abbrev decreases-loop : tie.decreases-loop
+abbrev decreases-loop : tie.decreases-loop-i
 decreases-loop taken₀ rows step c r column seen₀ i₀ taken seen i = rows - i
 
-loop-holds : tie.Need-loop-init invariant-loop decreases-loop
+loop-holds : tie.Need-loop-i-init invariant-loop decreases-loop
 loop-holds c = (omega arith, marking-none _ _ _ _ _)
 
-loop-again : tie.Need-loop-preserved invariant-loop decreases-loop
+loop-again : tie.Need-loop-i-preserved invariant-loop decreases-loop
 loop-again c =
     let looped = c.before.before.before in
-    let marked = looped.loop.invariant.1 in
-    (omega arith, marking-more marked (omega arith) (omega arith) (omega (arith, marked.marks.long, looped.before.requires.1)) c.with-bit.ensures (omega arith))
+    let marked = looped.loop-i.invariant.1 in
+    (omega arith, marking-more marked (omega arith) (omega arith) (omega (arith, marked.marks.long, looped.before.requires.1)) c.with_bit-y.ensures (omega arith))
 
 returns : tie.Need-returns invariant-loop decreases-loop
-returns c = marking-all c.before.before.loop.invariant.1 (omega arith) (omega arith) c.has-bit.ensures
+returns c = marking-all c.before.before.loop-i.invariant.1 (omega arith) (omega arith) c.has_bit.ensures
 
-pub occupy-spec : {M : Type 1} → statement M
-occupy-spec =
+pub occupy_spec : {M : Type 1} → statement M
+occupy_spec =
     tie.close
     (tie.spec
     invariant-loop

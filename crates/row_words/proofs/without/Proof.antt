@@ -7,5 +7,5 @@ use Rattle.row_words.proofs.without.Tie as tie
 returns : tie.Need-returns
 returns c = without_is _ _ (omega arith)
 
-pub without-spec : {M : Type 1} → statement M
-without-spec = tie.close (tie.spec returns)
+pub without_spec : {M : Type 1} → statement M
+without_spec = tie.close (tie.spec returns)

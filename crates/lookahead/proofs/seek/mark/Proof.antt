@@ -4,10 +4,10 @@ use borrow.Author.Rules.{rules}
 use Rattle.lookahead.proofs.seek.mark.Statement.{statement}
 use Rattle.lookahead.proofs.seek.mark.Tie as tie
 
-abbrev invariant-loop : tie.invariant-loop
+abbrev invariant-loop : tie.invariant-loop-i
 invariant-loop uses₀ rows step c r clash₀ i₀ uses clash i = Unit {0}
 
-abbrev decreases-loop : tie.decreases-loop
+abbrev decreases-loop : tie.decreases-loop-i
 decreases-loop uses₀ rows step c r clash₀ i₀ uses clash i = rows - i
 
 pub mark_spec : {M : Type 1} → statement M

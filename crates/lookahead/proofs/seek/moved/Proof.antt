@@ -7,17 +7,17 @@ use Rattle.prices.specs.Prices.{most_price}
 use Rattle.lookahead.proofs.seek.moved.Statement.{statement}
 use Rattle.lookahead.proofs.seek.moved.Tie as tie
 
-product_small : (c : tie.Else1) → (c.before.byte.result - 1) * c.before.before.args.d ≤ 256 * most_price
-product_small c = omega (arith, mul-le-mul {n₁ = c.before.byte.result - 1} {n₂ = 254} {m₂ = most_price} (omega arith) c.before.before.requires)
+product_small : (c : tie.Else-g-eq0) → (c.byte-g.result - 1) * c.args.d ≤ 256 * most_price
+product_small c = omega (arith, mul-le-mul {n₁ = c.byte-g.result - 1} {n₂ = 254} {m₂ = most_price} (omega arith) c.requires)
 
-mul-raised : tie.Need-overflow-mul-raised
+mul-raised : tie.Need-overflow_mul-g
 mul-raised c = let h = product_small c in search rules
 
 raised-requires : tie.Need-raised-requires
 raised-requires c κs = product_small c
 
-pub moved-spec : {M : Type 1} → statement M
-moved-spec =
+pub moved_spec : {M : Type 1} → statement M
+moved_spec =
     tie.close
     (tie.spec
     (λ c κs. search rules)

@@ -8,25 +8,25 @@ use Rattle.rules.specs.Parts.{Repeat}
 use Rattle.lookahead.proofs.seek.start.Statement.{statement}
 use Rattle.lookahead.proofs.seek.start.Tie as tie
 
-abbrev invariant-loop : tie.invariant-loop
+abbrev invariant-loop : tie.invariant-loop-j
 invariant-loop p steps table left prices₀ count j₀ prices j = Unit {0}
 
-abbrev decreases-loop : tie.decreases-loop
+abbrev decreases-loop : tie.decreases-loop-j
 decreases-loop p steps table left prices₀ count j₀ prices j = count - j
 
 -- how often the message at hand is sent
-sent : (c : tie.In-loop invariant-loop decreases-loop)
-    → Repeat c.before.before.before.before.args.p.now c.before.loop.j (get_or c.before.before.before.before.args.steps.now c.before.loop.j 0)
-sent c = c.before.before.before.before.requires.1.each _ (omega arith)
+sent : (c : tie.In-loop-j invariant-loop decreases-loop)
+    → Repeat c.args.p.now c.loop-j.j (get_or c.args.steps.now c.loop-j.j 0)
+sent c = c.requires.1.each _ (omega arith)
 
-count-of-requires : tie.Need-count-of-requires invariant-loop decreases-loop
-count-of-requires c κs = (omega arith, (sent c.before.before.before).most)
+count-of-requires : tie.Need-count_of-n-requires invariant-loop decreases-loop
+count-of-requires c κs = (omega arith, (sent c.before.before.before.before).most)
 
 spread-requires : tie.Need-spread-requires invariant-loop decreases-loop
 spread-requires c κs =
-    let few = c.before.before.before.before.before.before.before.before.before.before.requires.0 in
-    let times = sent c.before.before.before.before.before.before in
-    (few, (omega arith, times.least, times.most, omega (arith, div-le_self 16384 c.before.before.count_of.result)))
+    let few = c.requires.0 in
+    let times = sent c.before.before.before.before.before.before.before in
+    (few, (omega arith, times.least, times.most, omega (arith, div-le_self 16384 c.count_of-n.result)))
 
 pub start_spec : {M : Type 1} → statement M
 start_spec =

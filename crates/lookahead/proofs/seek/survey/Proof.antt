@@ -12,45 +12,45 @@ use borrow.Author.Rules.{rules}
 use Rattle.lookahead.proofs.seek.survey.Statement.{statement}
 use Rattle.lookahead.proofs.seek.survey.Tie as tie
 
-abbrev invariant-loop : tie.invariant-loop
+abbrev invariant-loop : tie.invariant-loop-j
 invariant-loop p steps table left sums least₀ uses₀ seen₀ count rows cost₀ clash₀ j₀ least uses seen cost clash j =
     (length least ≡ most_planned) × (j ≤ count) × Owed p table sums left j least cost
 
-abbrev decreases-loop : tie.decreases-loop
+abbrev decreases-loop : tie.decreases-loop-j
 decreases-loop p steps table left sums least₀ uses₀ seen₀ count rows cost₀ clash₀ j₀ least uses seen cost clash j =
     count - j
 
 -- from where a message is at hand back to the call's start
-abbrev begun : tie.In-loop invariant-loop decreases-loop → tie.Start invariant-loop decreases-loop
+abbrev begun : tie.In-loop-j invariant-loop decreases-loop → tie.Start invariant-loop decreases-loop
 begun c = c.before.before.before.before.before
 
 -- how often it is sent
-sent : (c : tie.In-loop invariant-loop decreases-loop) → Repeat (begun c).args.p.now c.before.loop.j (get_or (begun c).args.steps.now c.before.loop.j 0)
+sent : (c : tie.In-loop-j invariant-loop decreases-loop) → Repeat (begun c).args.p.now c.loop-j.j (get_or (begun c).args.steps.now c.loop-j.j 0)
 sent c = (begun c).requires.1.0.each _ (omega arith)
 
-loop-holds : tie.Need-loop-init invariant-loop decreases-loop
-loop-holds c = (c.before.before.before.requires.1.1, search rules, owed_none _ _ _ _ _)
+loop-holds : tie.Need-loop-j-init invariant-loop decreases-loop
+loop-holds c = (c.requires.1.1, search rules, owed_none _ _ _ _ _)
 
-cheapest-requires : tie.Need-cheapest-requires invariant-loop decreases-loop
-cheapest-requires c κs = (omega arith, (sent c.before.before.before).most)
+cheapest-requires : tie.Need-cheapest-offer-requires invariant-loop decreases-loop
+cheapest-requires c κs = (omega arith, (sent c.before.before.before.before).most)
 
-mark-requires : tie.Need-mark-requires invariant-loop decreases-loop
-mark-requires c κs = let often = sent c.before.before.before.before.before.before in (omega arith, often.least, often.most, omega arith)
+mark-requires : tie.Need-mark-met-requires invariant-loop decreases-loop
+mark-requires c κs = let often = sent c.before.before.before.before.before.before.before in (omega arith, often.least, often.most, omega arith)
 
-loop-again : tie.Need-loop-preserved invariant-loop decreases-loop
-loop-again c = let has = c.before.has-bit.ensures in
-    let inv = c.before.before.before.loop.invariant in
+loop-again : tie.Need-loop-j-preserved invariant-loop decreases-loop
+loop-again c = let has = c.has_bit.ensures in
+    let inv = c.loop-j.invariant in
     let often = sent c.before.before in
     ⊎_elim
     (λ w. rw (w.9, w.12) (simp length-set inv.0, omega arith, owed-in inv.2 has w.0.taken (omega arith) often.is w.2.ensures.0 w.6.ensures.0))
     (λ w. rw (w.1, w.4) (inv.0, omega arith, owed-out inv.2 has w.0.left))
-    c.if1.branch
+    c.if-has_bit.branch
 
 returns : tie.Need-returns invariant-loop decreases-loop
-returns c = let inv = c.before.loop.invariant in (owed_all (omega arith) inv.2, inv.0)
+returns c = let inv = c.loop-j.invariant in (owed_all (omega arith) inv.2, inv.0)
 
-pub survey-spec : {M : Type 1} → statement M
-survey-spec =
+pub survey_spec : {M : Type 1} → statement M
+survey_spec =
     tie.close
     (tie.spec
     invariant-loop

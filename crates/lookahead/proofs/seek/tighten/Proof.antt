@@ -12,95 +12,92 @@ use Rattle.lookahead.proofs.Tightening.{Tight, tight-start, tight-paid, tight-jo
 use Rattle.lookahead.proofs.seek.tighten.Statement.{statement}
 use Rattle.lookahead.proofs.seek.tighten.Tie as tie
 
-abbrev invariant-loop : tie.invariant-loop
+abbrev invariant-loop : tie.invariant-loop-k
 invariant-loop p steps table₀ left prices₀ seen₀ sums₀ least₀ u₀ nearest₀ k₀ table prices seen sums least u nearest k =
     (length sums ≡ most_sums) × (length least ≡ most_planned) × Tight p left table₀ table u
 
-abbrev decreases-loop : tie.decreases-loop
+abbrev decreases-loop : tie.decreases-loop-k
 decreases-loop p steps table₀ left prices₀ seen₀ sums₀ least₀ u₀ nearest₀ k₀ table prices seen sums least u nearest k =
     16 - k
 
 -- from where the gap is known back to where the cheapest places were found, where the sums were, where the round began and where the call did
-abbrev surveyed : tie.After-ahead invariant-loop decreases-loop → tie.After-survey invariant-loop decreases-loop
+abbrev surveyed : tie.After-ahead-gap invariant-loop decreases-loop → tie.After-survey-found invariant-loop decreases-loop
 surveyed c = c.before.before.before.before.before.before
 
-abbrev added : tie.After-ahead invariant-loop decreases-loop → tie.After-add-up invariant-loop decreases-loop
+abbrev added : tie.After-ahead-gap invariant-loop decreases-loop → tie.After-add_up invariant-loop decreases-loop
 added c = c.before.before.before.before.before.before.before.before.before.before.before.before
 
-abbrev turn : tie.After-ahead invariant-loop decreases-loop → tie.At-loop invariant-loop decreases-loop
+abbrev turn : tie.After-ahead-gap invariant-loop decreases-loop → tie.At-loop-k invariant-loop decreases-loop
 turn c = c.before.before.before.before.before.before.before.before.before.before.before.before.before.before.before.before
 
-abbrev begun : tie.After-ahead invariant-loop decreases-loop → tie.Start invariant-loop decreases-loop
+abbrev begun : tie.After-ahead-gap invariant-loop decreases-loop → tie.Start invariant-loop decreases-loop
 begun c = (turn c).before.before.before.before
 
-loop-holds : tie.Need-loop-init invariant-loop decreases-loop
-loop-holds c = (refl, refl, tight-start c.before.before.before.requires.1.1 c.joint.ensures)
+loop-holds : tie.Need-loop-k-init invariant-loop decreases-loop
+loop-holds c = (refl, refl, tight-start c.requires.1.1 c.joint-u.ensures)
 
-add-up-requires : tie.Need-add-up-requires invariant-loop decreases-loop
-add-up-requires c κs = (c.before.before.before.before.before.before.before.requires.0, c.before.before.before.loop.invariant.0)
+add-up-requires : tie.Need-add_up-requires invariant-loop decreases-loop
+add-up-requires c κs = (c.requires.0, c.loop-k.invariant.0)
 
-survey-requires : tie.Need-survey-requires invariant-loop decreases-loop
+survey-requires : tie.Need-survey-found-requires invariant-loop decreases-loop
 survey-requires c κs =
-    let round = c.before.before.before.before.before.before.before.before.before in
-    let asked = round.before.before.before.before.requires in
-    (asked.0, (asked.1.0, round.loop.invariant.1))
+    let asked = c.requires in
+    (asked.0, (asked.1.0, c.loop-k.invariant.1))
 
-returns : tie.Need-returns invariant-loop decreases-loop
+returns : tie.Need-returns-then-not-found invariant-loop decreases-loop
 returns c =
-    let kept = c.before.before.before.before.before.before.before.before.before.before.before.before.loop.invariant.2 in
+    let kept = c.loop-k.invariant.2 in
     (kept.keeps, kept.long)
 
 narrow-requires : tie.Need-narrow-requires invariant-loop decreases-loop
 narrow-requires c κs =
-    let known = c.before.before.before.before in
-    let asked = (begun known).requires in
-    (asked.0, (asked.1.0, ((surveyed known).survey.ensures.0, (known.before.worth-of.ensures.1, (turn known).loop.invariant.2.long))))
+    let asked = (begun c).requires in
+    (asked.0, (asked.1.0, ((surveyed c).survey-found.ensures.0, (c.worth_of-worth.ensures.1, (turn c).loop-k.invariant.2.long))))
 
-returns-2 : tie.Need-returns-2 invariant-loop decreases-loop
+returns-2 : tie.Need-returns-then-gap-eq0 invariant-loop decreases-loop
 returns-2 c =
-    let known = c.before.before.before.before.before.before.before in
-    let owed = (surveyed known).survey.ensures.0 in
-    let told = c.before.before.narrow.ensures in
-    let worth = known.before.worth-of.ensures.0 in
-    let kept = tight-paid (begun known).requires.0 (added known).add-up.ensures.0 worth owed told.0 told.1 (turn known).loop.invariant.2 in
+    let owed = (surveyed c).survey-found.ensures.0 in
+    let told = c.narrow.ensures in
+    let worth = c.worth_of-worth.ensures.0 in
+    let kept = tight-paid (begun c).requires.0 (added c).add_up.ensures.0 worth owed told.0 told.1 (turn c).loop-k.invariant.2 in
     (kept.keeps, kept.long)
 
-joint-requires-2 : tie.Need-joint-requires-2 invariant-loop decreases-loop
-joint-requires-2 c κs = let asked = (begun c.before.before.before.before.before.before.before.before).pre in (asked.0, asked.1.0)
+joint-requires-2 : tie.Need-joint-fewer-requires invariant-loop decreases-loop
+joint-requires-2 c κs = let asked = (begun c).pre in (asked.0, asked.1.0)
 
 start-requires : tie.Need-start-requires invariant-loop decreases-loop
-start-requires c κs = let asked = (begun c.before.before.before.before).pre in (asked.0, asked.1.0)
+start-requires c κs = let asked = (begun c).pre in (asked.0, asked.1.0)
 
-weight-of-requires : tie.Need-weight-of-requires invariant-loop decreases-loop
-weight-of-requires c κs = (begun c.before.before.before.before.before).pre.0
+weight-of-requires : tie.Need-weight_of-requires invariant-loop decreases-loop
+weight-of-requires c κs = (begun c).pre.0
 
 step-requires : tie.Need-step-requires invariant-loop decreases-loop
-step-requires c κs = ((begun c.before.before.before.before.before.before.before.before.before.before).pre.0, omega arith)
+step-requires c κs = ((begun c).pre.0, omega arith)
 
 -- what a round leaves: the table without the places that are too dear and its cells taken anew, or these as they were, or both as they were
-round : (c : tie.Joined2 invariant-loop decreases-loop)
-    → Tight (begun c.before).args.p.now (begun c.before).args.left (begun c.before).args.table.now c.if2.table c.if2.u
+round : (c : tie.Joined-gap-nearest invariant-loop decreases-loop)
+    → Tight (begun c).args.p.now (begun c).args.left (begun c).args.table.now c.if-gap-nearest.table c.if-gap-nearest.u
 round c =
-    let few = (begun c.before).pre.0 in
-    let sums = (added c.before).add-up.ensures.0 in
-    let worth = c.before.before.worth-of.ensures.0 in
-    let owed = (surveyed c.before).survey.ensures.0 in
-    let kept = (turn c.before).loop.inv.2 in
+    let few = (begun c).pre.0 in
+    let sums = (added c).add_up.ensures.0 in
+    let worth = c.worth_of-worth.ensures.0 in
+    let owed = (surveyed c).survey-found.ensures.0 in
+    let kept = (turn c).loop-k.inv.2 in
     ⊎_elim
     (λ w. rw (w.9, w.10) (tight-joint w.8.ensures (tight-paid few sums worth owed w.4.ensures.0 w.4.ensures.1 kept)))
     (⊎_elim
     (λ w. rw (w.6, w.7) (tight-paid few sums worth owed w.4.ensures.0 w.4.ensures.1 kept))
     (λ w. rw (w.1, w.2) kept))
-    c.if2.branch
+    c.if-gap-nearest.branch
 
-loop-again : tie.Need-loop-preserved invariant-loop decreases-loop
-loop-again c = ((added c.before.before).add-up.ensures.1, (surveyed c.before.before).survey.ensures.1, round c.before)
+loop-again : tie.Need-loop-k-preserved invariant-loop decreases-loop
+loop-again c = ((added c).add_up.ensures.1, (surveyed c).survey-found.ensures.1, round c.before)
 
-returns-3 : tie.Need-returns-3 invariant-loop decreases-loop
-returns-3 c = let kept = c.before.loop.invariant.2 in (kept.keeps, kept.long)
+returns-3 : tie.Need-returns invariant-loop decreases-loop
+returns-3 c = let kept = c.loop-k.invariant.2 in (kept.keeps, kept.long)
 
-pub tighten-spec : {M : Type 1} → statement M
-tighten-spec =
+pub tighten_spec : {M : Type 1} → statement M
+tighten_spec =
     tie.close
     (tie.spec
     invariant-loop

@@ -5,14 +5,14 @@ use Rattle.prices.specs.Prices.{most_price}
 use Rattle.lookahead.proofs.seek.weight_in.Statement.{statement}
 use Rattle.lookahead.proofs.seek.weight_in.Tie as tie
 
-abbrev invariant-loop : tie.invariant-loop
+abbrev invariant-loop : tie.invariant-loop-z
 invariant-loop prices uses i x n₀ z₀ n z = (z ≤ x) × (n ≤ most_price * (x - z))
 
-abbrev decreases-loop : tie.decreases-loop
+abbrev decreases-loop : tie.decreases-loop-z
 decreases-loop prices uses i x n₀ z₀ n z = z
 
-pub weight-in-spec : {M : Type 1} → statement M
-weight-in-spec =
+pub weight_in_spec : {M : Type 1} → statement M
+weight_in_spec =
     tie.close
     (tie.spec
     invariant-loop
