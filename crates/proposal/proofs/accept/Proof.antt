@@ -6,42 +6,33 @@ use borrow.Author.Rules.{rules}
 use Rattle.proposal.proofs.accept.Statement.{statement}
 use Rattle.proposal.proofs.accept.Tie as tie
 
-returns : tie.Need-returns
+returns : tie.Need-returns-in_default
 returns c =
-    let decoded = c.before.before.before.before in
-    let start = decoded.before.before.before.before.before in
-    tested-file start.args.proposal.now decoded.decode.ensures c.enum_told.given.1
+    tested-file c.args.proposal.now c.decode-got.ensures c.in_default.is
 
 -- where the answer is a problem, the buffer begins with its words
-slice-reshare-prefix-proposal-fault : tie.Need-slice-reshare-prefix-proposal-fault
+slice-reshare-prefix-proposal-fault : tie.Need-slice_bounds-proposal_fault-end
 slice-reshare-prefix-proposal-fault c =
-    let got = c.before in
-    (got.before.before.before.before.decode.ensures.opens _ got.got.given.1).within
+    (c.decode-got.ensures.opens _ c.in-Problem.is).within
 
-slice-aggregate-proposal-fault : tie.Need-slice-aggregate-proposal-fault
+slice-aggregate-proposal-fault : tie.Need-slice_bounds-proposal_fault-end-2
 slice-aggregate-proposal-fault c =
-    let got = c.before.before in
-    sym (opened-length (got.before.before.before.before.decode.ensures.opens _ got.got.given.1))
+    sym (opened-length (c.decode-got.ensures.opens _ c.in-Problem.is))
 
-proposal-fault-requires : tie.Need-proposal-fault-requires
+proposal-fault-requires : tie.Need-proposal_fault-fault-requires
 proposal-fault-requires c κs =
-    let got = c.before.before in
-    (got.before.before.before.before.decode.ensures.opens _ got.got.given.1).formed
+    (c.decode-got.ensures.opens _ c.in-Problem.is).formed
 
-returns-2 : tie.Need-returns-2
+returns-2 : tie.Need-returns-in-Bad
 returns-2 c =
-    let tested = c.before.before.before in
-    let got = tested.before.before.before in
-    tested-proposal _ got.before.before.before.before.decode.ensures got.got.given.1 tested.proposal-fault.ensures refl c.before.fault.given.1
+    tested-proposal _ c.decode-got.ensures c.in-Problem.is c.proposal_fault-fault.ensures refl c.in-Bad.is
 
-returns-3 : tie.Need-returns-3
+returns-3 : tie.Need-returns
 returns-3 c =
-    let tested = c.before.before in
-    let got = tested.before.before.before in
-    tested-clear _ got.before.before.before.before.decode.ensures got.got.given.1 tested.proposal-fault.ensures refl c.enum-told2.given.1
+    tested-clear _ c.decode-got.ensures c.in-Problem.is c.proposal_fault-fault.ensures refl c.in_default-fault.is
 
-pub accept-spec : {M : Type 1} → statement M
-accept-spec =
+pub accept_spec : {M : Type 1} → statement M
+accept_spec =
     tie.close
     (tie.spec
     (λ c κs. search rules)

@@ -21,10 +21,10 @@ use Rattle.proposal.proofs.Walk.{Turn, turn-read, tells, met-first, passed-more,
 use Rattle.proposal.proofs.first_fault.Statement.{statement}
 use Rattle.proposal.proofs.first_fault.Tie as tie
 
-abbrev invariant-loop : tie.invariant-loop
+abbrev invariant-loop : tie.invariant-loop-c
 invariant-loop p w messages partial taken rows j c r step i₀ i = (i < j) × Unmet p w i j
 
-abbrev decreases-loop : tie.decreases-loop
+abbrev decreases-loop : tie.decreases-loop-c
 decreases-loop p w messages partial taken rows j c r step i₀ i = j - i
 
 abbrev invariant-faults : tie.invariant-faults
@@ -33,129 +33,103 @@ invariant-faults p w messages partial taken₀ rows j₀ taken j = (j ≤ messag
 abbrev decreases-faults : tie.decreases-faults
 decreases-faults p w messages partial taken₀ rows j₀ taken j = messages - j
 
--- from where a message is tested by itself back to where there is one, to its turn, and to the call's start
-abbrev reached : tie.After-own-fault invariant-loop decreases-loop invariant-faults decreases-faults → tie.Else1 invariant-loop decreases-loop invariant-faults decreases-faults
-reached c = c.before.before.before.before.before.before
-
-abbrev message : tie.After-own-fault invariant-loop decreases-loop invariant-faults decreases-faults → tie.At-faults invariant-loop decreases-loop invariant-faults decreases-faults
-message c = (reached c).before
-
-abbrev begun : tie.At-faults invariant-loop decreases-loop invariant-faults decreases-faults → tie.Start invariant-loop decreases-loop invariant-faults decreases-faults
-begun c = c.before.before.before.before
-
 faults-holds : tie.Need-faults-init invariant-loop decreases-loop invariant-faults decreases-faults
-faults-holds c = (omega arith, passed_none, c.before.before.before.requires.3)
+faults-holds c = (omega arith, passed_none, c.requires.3)
 
 -- a message that is passed over
-faults-again : tie.Need-faults-preserved invariant-loop decreases-loop invariant-faults decreases-faults
+faults-again : tie.Need-faults-preserved-then-not-looks_at invariant-loop decreases-loop invariant-faults decreases-faults
 faults-again c =
-    let at = c.before.before.before in
-    let start = begun at in
-    let unlooked = sym c.before.looks-at.ensures ∙ not-true _ c.if2.true in
-    (omega arith, passed-skip at.faults.invariant.1 unlooked, words-skip start.pre.0 (unlooked-kept start.args.partial _ _ unlooked) at.faults.invariant.2)
+    let unlooked = sym c.looks_at.ensures ∙ not-true _ c.if-not-looks_at.true-raw in
+    (omega arith, passed-skip c.faults.invariant.1 unlooked, words-skip c.requires.0 (unlooked-kept c.args.partial _ _ unlooked) c.faults.invariant.2)
 
 -- j is a message
-among : (c : tie.Else1 invariant-loop decreases-loop invariant-faults decreases-faults) → Member (begun c.before).args.p.now c.before.faults.j
-among c = member (begun c.before).pre.0 (omega arith)
+among : (c : tie.Else-messages-j invariant-loop decreases-loop invariant-faults decreases-faults) → Member c.args.p.now c.faults.j
+among c = member c.requires.0 (omega arith)
 
-repeat-of-requires : tie.Need-repeat-of-requires invariant-loop decreases-loop invariant-faults decreases-faults
+repeat-of-requires : tie.Need-repeat_of-step-requires invariant-loop decreases-loop invariant-faults decreases-faults
 repeat-of-requires c κs = among c.before.before.before.before
 
-own-fault-requires : tie.Need-own-fault-requires invariant-loop decreases-loop invariant-faults decreases-faults
-own-fault-requires c κs = (among c.before.before.before.before.before, c.repeat-of.ensures.is)
+own-fault-requires : tie.Need-own_fault-own-requires invariant-loop decreases-loop invariant-faults decreases-faults
+own-fault-requires c κs = (among c.before.before.before.before.before, c.repeat_of-step.ensures.is)
 
 -- message j is looked at, and this is its fault by itself
-looked-at : (c : tie.After-own-fault invariant-loop decreases-loop invariant-faults decreases-faults)
-    → let at = message c in let start = begun at in looked start.args.partial start.args.w.now at.faults.j ≡ true
-looked-at c = let asked = c.before.before.before.before in sym asked.before.looks-at.ensures ∙ not-false _ asked.if2.false
+looked-at : (c : tie.After-own_fault-own invariant-loop decreases-loop invariant-faults decreases-faults)
+    → looked c.args.partial c.args.w.now c.faults.j ≡ true
+looked-at c = sym c.looks_at.ensures ∙ not-false _ c.if-not-looks_at.false-raw
 
-own : (c : tie.After-own-fault invariant-loop decreases-loop invariant-faults decreases-faults)
-    → let at = message c in let start = begun at in Own start.args.p.now start.args.w.now at.faults.j c.own-fault.result
-own c = own_read c.before.before.before.column-of.ensures.0 c.before.before.row_of.ensures.0 c.own-fault.ensures
+own : (c : tie.After-own_fault-own invariant-loop decreases-loop invariant-faults decreases-faults)
+    → Own c.args.p.now c.args.w.now c.faults.j c.own_fault-own.result
+own c = own_read c.column_of-c.ensures.0 c.row_of-r.ensures.0 c.own_fault-own.ensures
 
 -- it has none: then it can have its column and base row
-clear : (c : tie.After-enum-told invariant-loop decreases-loop invariant-faults decreases-faults)
-    → let at = message c.before.before in
-    let start = begun at in own_fault start.args.p.now at.faults.j (column start.args.w.now at.faults.j) (row start.args.w.now at.faults.j) ≡ Clear
-clear c = sym (own c.before.before).is ∙ c.enum_told.given.1
+clear : (c : tie.In_default invariant-loop decreases-loop invariant-faults decreases-faults)
+    →
+    own_fault c.args.p.now c.faults.j (column c.args.w.now c.faults.j) (row c.args.w.now c.faults.j) ≡ Clear
+clear c = sym (own c.before).is ∙ c.in_default.is
 
 occupy-requires : tie.Need-occupy-requires invariant-loop decreases-loop invariant-faults decreases-faults
 occupy-requires c κs =
-    let told = c.before in
-    let tested = told.before.before in
-    let at = message tested in
-    let most = (begun at).pre.0.header.columns-most in
-    let placed = (own_alone _ _ _ _ (clear told)).placed in
-    let asked = tested.before in
-    let c-is = asked.before.before.column-of.ensures.0 in
-    let r-is = asked.before.row_of.ensures.0 in
-    let step_is = asked.repeat-of.ensures.is in
-    ((omega arith, omega arith, omega arith, omega (arith, c-is), omega (arith, r-is, step_is)), at.faults.inv.2.long)
+    let most = c.requires.0.header.columns-most in
+    let placed = (own_alone _ _ _ _ (clear c.before)).placed in
+    let c-is = c.column_of-c.ensures.0 in
+    let r-is = c.row_of-r.ensures.0 in
+    let step_is = c.repeat_of-step.ensures.is in
+    ((omega arith, omega arith, omega arith, omega (arith, c-is), omega (arith, r-is, step_is)), c.faults.invariant.2.long)
 
 -- its cells are marked
 turn : (c : tie.After-occupy invariant-loop decreases-loop invariant-faults decreases-faults)
-    → let at = message c.before.before.before.before in
-    let start = begun at in Turn start.args.partial start.args.p.now start.args.w.now at.faults.j at.faults.taken c.occupy.new.0 c.occupy.result
+    →
+    Turn c.args.partial c.args.p.now c.args.w.now c.faults.j c.faults.taken c.occupy.new.taken c.occupy.result
 turn c =
-    let told = c.before.before in
-    let tested = told.before.before in
-    let asked = tested.before in
-    let at = message tested in
-    turn-read (among (reached tested)) at.faults.inv.1 (looked-at tested) (clear told) at.faults.inv.2
-    asked.before.before.column-of.ensures.0 asked.before.row_of.ensures.0 asked.repeat-of.ensures.is at.before.rows_of_lem.ensures.0
+    turn-read (among c.before.before.before.before.before.before.before.before.before) c.faults.invariant.1 (looked-at c.before.before.before) (clear c.before.before) c.faults.invariant.2
+    c.column_of-c.ensures.0 c.row_of-r.ensures.0 c.repeat_of-step.ensures.is c.rows_of-rows.ensures.0
     c.occupy.ensures
 
 -- it found one taken: an earlier message meets it
-met : (c : tie.Then3 invariant-loop decreases-loop invariant-faults decreases-faults)
-    → let at = message c.before.before.before.before.before in
-    let start = begun at in some at.faults.j (λ k. meets start.args.p.now start.args.w.now k at.faults.j) ≡ true
-met c = sym (tells (turn c.before)) ∙ c.if3.true
+met : (c : tie.Then-occupy invariant-loop decreases-loop invariant-faults decreases-faults)
+    →
+    some c.faults.j (λ k. meets c.args.p.now c.args.w.now k c.faults.j) ≡ true
+met c = sym (tells (turn c.before)) ∙ c.if-occupy.true
 
-loop-holds : tie.Need-loop-init invariant-loop decreases-loop invariant-faults decreases-faults
+loop-holds : tie.Need-loop-c-init invariant-loop decreases-loop invariant-faults decreases-faults
 loop-holds c = (sought (met c) unmet-none, unmet-none)
 
-do-meet-requires : tie.Need-do-meet-requires invariant-loop decreases-loop invariant-faults decreases-faults
+do-meet-requires : tie.Need-do_meet-requires invariant-loop decreases-loop invariant-faults decreases-faults
 do-meet-requires c κs =
-    let own = among (reached c.before.before.before.before.before.before) in
+    let own = among c.before.before.before.before.before.before.before.before.before.before.before in
     ((member own.formed (omega (arith, own.below)), own), (omega (arith, own.below), omega (arith, own.below)))
 
 -- the places of a refusal fit their words
-small : (c : tie.Then4 invariant-loop decreases-loop invariant-faults decreases-faults) → (message c.before.before.before.before.before.before.before.before).faults.j < most_messages
-small c = let own = among (reached c.before.before.before.before.before.before.before.before) in omega (arith, own.below, own.formed.header.messages-most)
+small : (c : tie.Then-do_meet-unread invariant-loop decreases-loop invariant-faults decreases-faults) → c.faults.j < most_messages
+small c = let own = among c.before.before.before.before.before.before.before.before.before.before.before.before.before in omega (arith, own.below, own.formed.header.messages-most)
 
-cast-t20 : tie.Need-overflow-cast-t20 invariant-loop decreases-loop invariant-faults decreases-faults
+cast-t20 : tie.Need-overflow_cast-result invariant-loop decreases-loop invariant-faults decreases-faults
 cast-t20 c = omega (arith, small c)
 
-cast-t21 : tie.Need-overflow-cast-t21 invariant-loop decreases-loop invariant-faults decreases-faults
+cast-t21 : tie.Need-overflow_cast-result-then-do_meet invariant-loop decreases-loop invariant-faults decreases-faults
 cast-t21 c = omega (arith, small c)
 
-loop-again : tie.Need-loop-preserved invariant-loop decreases-loop invariant-faults decreases-faults
+loop-again : tie.Need-loop-c-preserved invariant-loop decreases-loop invariant-faults decreases-faults
 loop-again c =
-    let looped = c.before.before in
-    let more = unmet-more looped.loop.invariant.1 c.before.do-meet.ensures c.if4.false in
-    (sought (met looped.before) more, more)
+    let more = unmet-more c.loop-c.invariant.1 c.do_meet.ensures c.if-do_meet.false in
+    (sought (met c.before.before.before) more, more)
 
-faults-again-2 : tie.Need-faults-preserved-2 invariant-loop decreases-loop invariant-faults decreases-faults
-faults-again-2 c = let done = turn c.before in (omega arith, passed-more done c.if3.false, words-passed done)
+faults-again-2 : tie.Need-faults-preserved invariant-loop decreases-loop invariant-faults decreases-faults
+faults-again-2 c = let done = turn c.before in (omega arith, passed-more done c.if-occupy.false, words-passed done)
 
-returns : tie.Need-returns invariant-loop decreases-loop invariant-faults decreases-faults
-returns c = let at = c.before in all-clear at.faults.invariant.1 at.faults.invariant.2 (begun at).requires.1 (omega arith)
+returns : tie.Need-returns-then-messages-j invariant-loop decreases-loop invariant-faults decreases-faults
+returns c = all-clear c.faults.invariant.1 c.faults.invariant.2 c.requires.1 (omega arith)
 
-returns-2 : tie.Need-returns-2 invariant-loop decreases-loop invariant-faults decreases-faults
+returns-2 : tie.Need-returns-in-Bad invariant-loop decreases-loop invariant-faults decreases-faults
 returns-2 c =
-    let bad = c.before in
-    let tested = bad.before.before in
-    own_first (message tested).faults.invariant.1 (omega arith) (looked-at tested) (own tested) bad.own.given.1
+    own_first c.faults.invariant.1 (omega arith) (looked-at c.before) (own c.before) c.in-Bad.is
 
-returns-3 : tie.Need-returns-3 invariant-loop decreases-loop invariant-faults decreases-faults
+returns-3 : tie.Need-returns-then-do_meet invariant-loop decreases-loop invariant-faults decreases-faults
 returns-3 c =
-    let looped = c.before.before in
-    let told = looped.before.before.before.before in
-    let tested = told.before.before in
-    met-first (message tested).faults.invariant.1 (omega (arith, (reached tested).if1.false)) (looked-at tested) (clear told) looped.loop.invariant.1 looped.loop.invariant.0 c.before.do-meet.ensures c.if4.true
+    met-first c.faults.invariant.1 (omega (arith, c.if-messages-j.false)) (looked-at c.before.before.before.before.before.before.before) (clear c.before.before.before.before.before.before) c.loop-c.invariant.1 c.loop-c.invariant.0 c.do_meet.ensures c.if-do_meet.true
 
-pub first-fault-spec : {M : Type 1} → statement M
-first-fault-spec =
+pub first_fault_spec : {M : Type 1} → statement M
+first_fault_spec =
     tie.close
     (tie.spec
     invariant-loop

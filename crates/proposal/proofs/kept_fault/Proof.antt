@@ -5,20 +5,16 @@ use borrow.Author.Rules.{rules}
 use Rattle.proposal.proofs.kept_fault.Statement.{statement}
 use Rattle.proposal.proofs.kept_fault.Tie as tie
 
-returns : tie.Need-returns
-returns c = let start = c.before.before.before.before in other-kept start.args.p.now start.args.k.now c.before.proposal-words.ensures.0 c.if1.true
+returns : tie.Need-returns-then-k-proposal_words
+returns c = other-kept c.args.p.now c.args.k.now c.proposal_words.ensures.0 c.if-k-proposal_words.true
 
-first-fault-requires : tie.Need-first-fault-requires
+first-fault-requires : tie.Need-first_fault-requires
 first-fault-requires c κs =
-    let tested = c.before.before in
-    let start = tested.before.before.before.before in
-    (start.requires.0, c.before.messages-of.ensures.0, tested.if1.false ∙ tested.before.proposal-words.ensures.0, start.requires.1)
+    (c.requires.0, c.messages_of.ensures.0, c.if-k-proposal_words.false ∙ c.proposal_words.ensures.0, c.requires.1)
 
-returns-2 : tie.Need-returns-2
+returns-2 : tie.Need-returns
 returns-2 c =
-    let tested = c.before.before.before in
-    let start = tested.before.before.before.before in
-    right_kept start.args.p.now start.args.k.now tested.before.proposal-words.ensures.0 tested.if1.false c.before.before.messages-of.ensures.0 c.first-fault.ensures
+    right_kept c.args.p.now c.args.k.now c.proposal_words.ensures.0 c.if-k-proposal_words.false c.messages_of.ensures.0 c.first_fault.ensures
 
-pub kept-fault-spec : {M : Type 1} → statement M
-kept-fault-spec = tie.close (tie.spec (λ c κs. search rules) returns (λ c κs. search rules) first-fault-requires returns-2)
+pub kept_fault_spec : {M : Type 1} → statement M
+kept_fault_spec = tie.close (tie.spec (λ c κs. search rules) returns (λ c κs. search rules) first-fault-requires returns-2)

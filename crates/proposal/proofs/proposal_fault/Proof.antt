@@ -6,20 +6,16 @@ use borrow.Author.Rules.{rules}
 use Rattle.proposal.proofs.proposal_fault.Statement.{statement}
 use Rattle.proposal.proofs.proposal_fault.Tie as tie
 
-returns : tie.Need-returns
-returns c = let start = c.before.before.before.before in other-proposal start.args.p.now start.args.w.now c.before.proposal-words.ensures.0 c.if1.true
+returns : tie.Need-returns-then-w-proposal_words
+returns c = other-proposal c.args.p.now c.args.w.now c.proposal_words.ensures.0 c.if-w-proposal_words.true
 
-first-fault-requires : tie.Need-first-fault-requires
+first-fault-requires : tie.Need-first_fault-requires
 first-fault-requires c κs =
-    let tested = c.before.before in
-    let start = tested.before.before.before.before in
-    (start.requires, c.before.messages-of.ensures.0, tested.if1.false ∙ tested.before.proposal-words.ensures.0, words-none start.args.p.now start.args.w.now start.requires)
+    (c.requires, c.messages_of.ensures.0, c.if-w-proposal_words.false ∙ c.proposal_words.ensures.0, words-none c.args.p.now c.args.w.now c.requires)
 
-returns-2 : tie.Need-returns-2
+returns-2 : tie.Need-returns
 returns-2 c =
-    let tested = c.before.before.before in
-    let start = tested.before.before.before.before in
-    right-proposal start.args.p.now start.args.w.now tested.before.proposal-words.ensures.0 tested.if1.false c.before.before.messages-of.ensures.0 c.first-fault.ensures
+    right-proposal c.args.p.now c.args.w.now c.proposal_words.ensures.0 c.if-w-proposal_words.false c.messages_of.ensures.0 c.first_fault.ensures
 
-pub proposal-fault-spec : {M : Type 1} → statement M
-proposal-fault-spec = tie.close (tie.spec (λ c κs. search rules) returns (λ c κs. search rules) first-fault-requires returns-2)
+pub proposal_fault_spec : {M : Type 1} → statement M
+proposal_fault_spec = tie.close (tie.spec (λ c κs. search rules) returns (λ c κs. search rules) first-fault-requires returns-2)
