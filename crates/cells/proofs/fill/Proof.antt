@@ -10,45 +10,40 @@ use Rattle.cells.proofs.Marks.{table_step, table-all}
 use Rattle.cells.proofs.fill.Statement.{statement}
 use Rattle.cells.proofs.fill.Tie as tie
 
-abbrev invariant-loop : tie.invariant-loop
+abbrev invariant-loop : tie.invariant-loop-j
 invariant-loop p w table₀ messages rows j₀ table j = (j ≤ messages) × Table p w j table
 
-abbrev decreases-loop : tie.decreases-loop
+abbrev decreases-loop : tie.decreases-loop-j
 decreases-loop p w table₀ messages rows j₀ table j = messages - j
 
-loop-holds : tie.Need-loop-init invariant-loop decreases-loop
-loop-holds c = (omega arith, c.before.before.before.before.requires.1)
+loop-holds : tie.Need-loop-j-init invariant-loop decreases-loop
+loop-holds c = (omega arith, c.requires.1)
 
-column-of-requires : tie.Need-column-of-requires invariant-loop decreases-loop
-column-of-requires c κs = omega (arith, words c.before.before.before.before.before.before.before.requires.0)
+column-of-requires : tie.Need-column_of-requires invariant-loop decreases-loop
+column-of-requires c κs = omega (arith, words c.requires.0)
 
-row-of-requires : tie.Need-row-of-requires invariant-loop decreases-loop
-row-of-requires c κs = omega (arith, words c.before.before.before.before.before.before.before.before.requires.0)
+row-of-requires : tie.Need-row_of-requires invariant-loop decreases-loop
+row-of-requires c κs = omega (arith, words c.requires.0)
 
-repeat-of-requires : tie.Need-repeat-of-requires invariant-loop decreases-loop
-repeat-of-requires c κs = member c.before.before.before.before.before.before.before.before.before.requires.0.formed (omega arith)
+repeat-of-requires : tie.Need-repeat_of-requires invariant-loop decreases-loop
+repeat-of-requires c κs = member c.requires.0.formed (omega arith)
 
 mark-requires : tie.Need-mark-requires invariant-loop decreases-loop
 mark-requires c κs =
-    let looped = c.before.before.before.before.before in
-    let start = looped.before.before.before.before.before in
-    let placed = (at start.requires.0 looped.loop.j (omega arith)).placed in
-    let most = start.requires.0.formed.header.columns-most in
-    ((omega arith, omega arith, omega arith, omega arith, omega arith), looped.loop.invariant.1.long)
+    let placed = (at c.requires.0 c.loop-j.j (omega arith)).placed in
+    let most = c.requires.0.formed.header.columns-most in
+    ((omega arith, omega arith, omega arith, omega arith, omega arith), c.loop-j.invariant.1.long)
 
-loop-again : tie.Need-loop-preserved invariant-loop decreases-loop
-loop-again c =
-    let rowed = c.before.before in
-    let looped = rowed.before.before.before.before in
-    let start = looped.before.before.before.before.before in (
-      omega arith,
-      table_step start.requires.0 (omega arith) looped.loop.invariant.1
-          rowed.before.column-of.ensures.0 rowed.row_of.ensures.0 c.before.repeat-of.ensures.is
-          looped.before.rows_of_lem.ensures.0 (omega arith) c.mark.ensures,
-    )
+loop-again : tie.Need-loop-j-preserved invariant-loop decreases-loop
+loop-again c = (
+  omega arith,
+  table_step c.requires.0 (omega arith) c.loop-j.invariant.1
+      c.column_of.ensures.0 c.row_of.ensures.0 c.repeat_of.ensures.is
+      c.rows_of-rows.ensures.0 (omega arith) c.mark.ensures,
+)
 
 returns : tie.Need-returns invariant-loop decreases-loop
-returns c = let looped = c.before in table-all looped.loop.invariant.1 looped.before.before.messages-of.ensures.0 (omega arith) (omega arith)
+returns c = table-all c.loop-j.invariant.1 c.messages_of-messages.ensures.0 (omega arith) (omega arith)
 
 pub fill_spec : {M : Type 1} → statement M
 fill_spec =

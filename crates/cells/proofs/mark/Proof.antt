@@ -14,23 +14,22 @@ use Rattle.cells.proofs.mark.Tie as tie
 cells-apart : (c x y : ℕ) → cell x c ≡ cell y c → x ≡ y
 cells-apart c x y e = omega arith
 
-abbrev invariant-loop : tie.invariant-loop
+abbrev invariant-loop : tie.invariant-loop-i
 invariant-loop table₀ c r step rows number i₀ table i = (i < 2 * most_rows) × Striding (Becomes number) (λ (i : ℕ). cell i c) r step rows i table₀ table
 
-abbrev decreases-loop : tie.decreases-loop
+abbrev decreases-loop : tie.decreases-loop-i
 decreases-loop table₀ c r step rows number i₀ table i = rows - i
 
-loop-holds : tie.Need-loop-init invariant-loop decreases-loop
+loop-holds : tie.Need-loop-i-init invariant-loop decreases-loop
 loop-holds c = (omega arith, striding-none _ _ (cells-apart _) _ _ _ _)
 
-loop-again : tie.Need-loop-preserved invariant-loop decreases-loop
+loop-again : tie.Need-loop-i-preserved invariant-loop decreases-loop
 loop-again c =
-    let looped = c.before.before in
-    let marked = looped.loop.invariant.1 in
-    (omega arith, striding-more _ _ (cells-apart _) marked (omega arith) (omega arith) c.cell-of.ensures.0 (omega (arith, marked.long, looped.before.requires.1)) (omega arith) refl)
+    let marked = c.loop-i.invariant.1 in
+    (omega arith, striding-more _ _ (cells-apart _) marked (omega arith) (omega arith) c.cell_of.ensures.0 (omega (arith, marked.long, c.requires.1)) (omega arith) refl)
 
 returns : tie.Need-returns invariant-loop decreases-loop
-returns c = striding-all _ _ (cells-apart _) c.before.loop.invariant.1 (omega arith) (omega arith)
+returns c = striding-all _ _ (cells-apart _) c.loop-i.invariant.1 (omega arith) (omega arith)
 
 pub mark_spec : {M : Type 1} → statement M
 mark_spec =
