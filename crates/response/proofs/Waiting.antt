@@ -11,7 +11,7 @@ use Rattle.basics.proofs.Fixed.{Under, under-from, under_next, under-least, leas
 use Rattle.basics.proofs.Steps.{Step, stays, rises}
 use Rattle.response.specs.declared.times.Worst.{Worst}
 use Rattle.response.specs.Events.{longest_period, period, jitter, deadline}
-use Rattle.response.specs.Times.{takes, blocking, arrivals, demand, longest_busy, queue, Queued, response, Instance, Longest, Response, Written, met, missed}
+use Rattle.response.specs.Times.{takes, blocking, arrivals, demand, longest_busy, queue, Queued, Instance, Longest, Response, Written, met, missed}
 use Rattle.response.specs.Parts.{Member, Span, Worse, kept, longer, Sought, shortest_frame, most_demand}
 use Rattle.response.proofs.Queue.{below-ceiling, demand-step, demand-some, queue-rises}
 use Rattle.response.proofs.Instances.{waits-within, released, under-later, longest-first, longest-kept, longest-next, response-exists}

@@ -7,25 +7,21 @@ use Rattle.response.proofs.Spans.{noted-bad, noted-rest}
 use Rattle.response.proofs.call_fault.Statement.{statement}
 use Rattle.response.proofs.call_fault.Tie as tie
 
-returns : tie.Need-returns
-returns c = noted-bad (call-events _ _ c.before.before.before.events-fault.ensures c.before.fault.given.1)
+returns : tie.Need-returns-in-Bad
+returns c = noted-bad (call-events _ _ c.events_fault-fault.ensures c.in-Bad.is)
 
-busy-fault-requires : tie.Need-busy-fault-requires
+busy-fault-requires : tie.Need-busy_fault-busy-requires
 busy-fault-requires c κs =
-    let told = c.before in
-    let sound = clear-sound _ (sym told.before.before.events-fault.ensures ∙ told.enum_told.given.1) in
-    (sound, omega (arith, sound.whole.count_most, told.before.before.before.before.before.requires))
+    let sound = clear-sound _ (sym c.events_fault-fault.ensures ∙ c.in_default.is) in
+    (sound, omega (arith, sound.whole.count_most, c.requires))
 
-returns-2 : tie.Need-returns-2
+returns-2 : tie.Need-returns
 returns-2 c =
-    let rest = c.before.before in
-    let noted = rest.before.before.before in
-    let told = noted.before.before in
-    noted-rest _ _ _ told.before.before.events-fault.ensures told.enum_told.given.1 noted.busy-fault.ensures
-    rest.count_of.ensures c.before.room-fault.ensures c.first_of.ensures
+    noted-rest _ _ _ c.events_fault-fault.ensures c.in_default.is c.busy_fault-busy.ensures
+    c.count_of.ensures c.room_fault-short.ensures c.first_of.ensures
 
-pub call-fault-spec : {M : Type 1} → statement M
-call-fault-spec =
+pub call_fault_spec : {M : Type 1} → statement M
+call_fault_spec =
     tie.close
     (tie.spec
     (λ c κs. search rules)

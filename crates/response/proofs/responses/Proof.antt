@@ -7,25 +7,22 @@ use Rattle.response.proofs.Results.{responding-refused, responding-done}
 use Rattle.response.proofs.responses.Statement.{statement}
 use Rattle.response.proofs.responses.Tie as tie
 
-returns : tie.Need-returns
-returns c = responding-refused _ _ c.before.before.before.before.call-fault.ensures.fault-is c.before.fault.given.1
+returns : tie.Need-returns-in-Bad
+returns c = responding-refused _ _ c.call_fault-fault.ensures.fault-is c.in-Bad.is
 
 fill-requires : tie.Need-fill-requires
 fill-requires c κs =
-    let told = c.before.before in
-    let called = told.before.before.before in
-    let clear = told.enum_told.given.1 in
-    let ready = clear-ready _ _ (sym called.call-fault.ensures.fault-is ∙ clear) in
-    (ready.sound, called.call-fault.ensures.spans clear, omega (arith, ready.sound.whole.count_most), ready.fits)
+    let clear = c.in_default.is in
+    let ready = clear-ready _ _ (sym c.call_fault-fault.ensures.fault-is ∙ clear) in
+    (ready.sound, c.call_fault-fault.ensures.spans clear, omega (arith, ready.sound.whole.count_most), ready.fits)
 
-returns-2 : tie.Need-returns-2
+returns-2 : tie.Need-returns
 returns-2 c =
-    let told = c.before.before.before.before.before in
-    let filled = c.before.before.fill.ensures in
-    responding-done _ _ told.before.before.before.call-fault.ensures.fault-is told.enum_told.given.1 filled.0 filled.1
+    let filled = c.fill.ensures in
+    responding-done _ _ c.call_fault-fault.ensures.fault-is c.in_default.is filled.0 filled.1
 
-pub responses-spec : {M : Type 1} → statement M
-responses-spec =
+pub responses_spec : {M : Type 1} → statement M
+responses_spec =
     tie.close
     (tie.spec
     (λ c. search rules)

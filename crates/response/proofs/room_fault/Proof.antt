@@ -3,5 +3,5 @@ use Rattle.response.proofs.Faults.{room-bad, room-clear}
 use Rattle.response.proofs.room_fault.Statement.{statement}
 use Rattle.response.proofs.room_fault.Tie as tie
 
-pub room-fault-spec : {M : Type 1} → statement M
-room-fault-spec = tie.close (tie.spec (λ c. room-bad c.if1.true) (λ c. room-clear c.if1.false))
+pub room_fault_spec : {M : Type 1} → statement M
+room_fault_spec = tie.close (tie.spec (λ c. room-bad c.if-room-n.true) (λ c. room-clear c.if-room-n.false))

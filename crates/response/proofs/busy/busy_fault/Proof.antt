@@ -11,31 +11,31 @@ use Rattle.response.proofs.Spans.{found_some, found_none, spans-none, spans-more
 use Rattle.response.proofs.busy.busy_fault.Statement.{statement}
 use Rattle.response.proofs.busy.busy_fault.Tie as tie
 
-abbrev invariant-loop : tie.invariant-loop
+abbrev invariant-loop : tie.invariant-loop-j
 invariant-loop events spans₀ n j₀ spans j = (j ≤ n) × (n ≡ count events) × (length spans ≡ length spans₀) × Spans events spans j
 
-abbrev decreases-loop : tie.decreases-loop
+abbrev decreases-loop : tie.decreases-loop-j
 decreases-loop events spans₀ n j₀ spans j = n - j
 
-loop-holds : tie.Need-loop-init invariant-loop decreases-loop
-loop-holds c = (search rules, c.count_of.ensures, search rules, spans-none _ _)
+loop-holds : tie.Need-loop-j-init invariant-loop decreases-loop
+loop-holds c = (search rules, c.count_of-n.ensures, search rules, spans-none _ _)
 
-busy-of-requires : tie.Need-busy-of-requires invariant-loop decreases-loop
-busy-of-requires c κs = member c.before.before.before.before.before.requires.0 (omega arith)
+busy-of-requires : tie.Need-busy_of-t-requires invariant-loop decreases-loop
+busy-of-requires c κs = member c.requires.0 (omega arith)
 
-returns : tie.Need-returns invariant-loop decreases-loop
-returns c = noted-none c.before.before.before.loop.invariant.3 (omega arith) (found_none c.if1.true c.before.busy-of.ensures)
+returns : tie.Need-returns-then-t-eq0 invariant-loop decreases-loop
+returns c = noted-none c.loop-j.invariant.3 (omega arith) (found_none c.if-t-eq0.true c.busy_of-t.ensures)
 
-loop-again : tie.Need-loop-preserved invariant-loop decreases-loop
+loop-again : tie.Need-loop-j-preserved invariant-loop decreases-loop
 loop-again c =
-    let known = c.before.before.before.loop.invariant in
-    (search rules, known.1, search rules, spans-more known.3 (omega arith) (found_some c.if1.false c.before.busy-of.ensures))
+    let known = c.loop-j.invariant in
+    (search rules, known.1, search rules, spans-more known.3 (omega arith) (found_some c.if-t-eq0.false c.busy_of-t.ensures))
 
-returns-2 : tie.Need-returns-2 invariant-loop decreases-loop
-returns-2 c = noted-all c.before.loop.invariant.3 (omega arith)
+returns-2 : tie.Need-returns invariant-loop decreases-loop
+returns-2 c = noted-all c.loop-j.invariant.3 (omega arith)
 
-pub busy-fault-spec : {M : Type 1} → statement M
-busy-fault-spec =
+pub busy_fault_spec : {M : Type 1} → statement M
+busy_fault_spec =
     tie.close
     (tie.spec
     invariant-loop

@@ -10,44 +10,44 @@ use Rattle.response.proofs.Turns.{left}
 use Rattle.response.proofs.busy.busy_of.Statement.{statement}
 use Rattle.response.proofs.busy.busy_of.Tie as tie
 
-abbrev invariant-loop : tie.invariant-loop
+abbrev invariant-loop : tie.invariant-loop-t
 invariant-loop events i blocked frame t₀ t = Spanning events i blocked frame t × (blocked ≤ longest_frame) × (frame ≤ longest_frame)
 
-abbrev decreases-loop : tie.decreases-loop
+abbrev decreases-loop : tie.decreases-loop-t
 decreases-loop events i blocked frame t₀ t = left t
 
-loop-holds : tie.Need-loop-init invariant-loop decreases-loop
-loop-holds c = (spanning-start c.before.before.before.requires c.before.blocking-of.ensures.is c.frame-of.ensures.is (omega arith), c.before.blocking-of.ensures.most, c.frame-of.ensures.most)
+loop-holds : tie.Need-loop-t-init invariant-loop decreases-loop
+loop-holds c = (spanning-start c.requires c.blocking_of-blocked.ensures.is c.frame_of-frame.ensures.is (omega arith), c.blocking_of-blocked.ensures.most, c.frame_of-frame.ensures.most)
 
-mul_next : tie.Need-overflow-mul-next invariant-loop decreases-loop
-mul_next c = omega (arith, product-most c.before.before.loop.invariant.2 c.arrivals-of.ensures.most)
+mul_next : tie.Need-overflow_mul-next invariant-loop decreases-loop
+mul_next c = omega (arith, product-most c.loop-t.invariant.2 c.arrivals_of.ensures.most)
 
-add-next : tie.Need-overflow-add-next invariant-loop decreases-loop
-add-next c = omega (arith, product-most c.before.before.before.loop.invariant.2 c.before.arrivals-of.ensures.most)
+add-next : tie.Need-overflow_add-next invariant-loop decreases-loop
+add-next c = omega (arith, product-most c.loop-t.invariant.2 c.arrivals_of.ensures.most)
 
-add-next-2 : tie.Need-overflow-add-next-2 invariant-loop decreases-loop
-add-next-2 c = omega (arith, product-most c.before.before.before.loop.invariant.2 c.before.arrivals-of.ensures.most)
+add-next-2 : tie.Need-overflow_add-next-in-loop-t invariant-loop decreases-loop
+add-next-2 c = omega (arith, product-most c.loop-t.invariant.2 c.arrivals_of.ensures.most)
 
-returns : tie.Need-returns invariant-loop decreases-loop
+returns : tie.Need-returns-then-next-t invariant-loop decreases-loop
 returns c =
-    let known = c.before.before.before.before.loop.invariant in
-    spanning-found known.0 c.before.before.arrivals-of.ensures.is c.before.demand-of.ensures.is (omega arith) c.if1.true
+    let known = c.loop-t.invariant in
+    spanning-found known.0 c.arrivals_of.ensures.is c.demand_of.ensures.is (omega arith) c.if-next-t.true
 
-loop-less : tie.Need-loop-smaller invariant-loop decreases-loop
+loop-less : tie.Need-loop-t-smaller invariant-loop decreases-loop
 loop-less c =
-    let known = c.before.before.before.before.loop.invariant in
-    spanning-falls known.0 c.before.before.arrivals-of.ensures.is c.before.demand-of.ensures.is (omega arith) c.if1.false
+    let known = c.loop-t.invariant in
+    spanning-falls known.0 c.arrivals_of.ensures.is c.demand_of.ensures.is (omega arith) c.if-next-t.false
 
-loop-again : tie.Need-loop-preserved invariant-loop decreases-loop
+loop-again : tie.Need-loop-t-preserved invariant-loop decreases-loop
 loop-again c =
-    let known = c.before.before.before.before.loop.invariant in
-    (spanning-next known.0 c.before.before.arrivals-of.ensures.is c.before.demand-of.ensures.is, known.1, known.2)
+    let known = c.loop-t.invariant in
+    (spanning-next known.0 c.arrivals_of.ensures.is c.demand_of.ensures.is, known.1, known.2)
 
-returns-2 : tie.Need-returns-2 invariant-loop decreases-loop
-returns-2 c = spanning-none c.before.loop.invariant.0 (omega arith)
+returns-2 : tie.Need-returns invariant-loop decreases-loop
+returns-2 c = spanning-none c.loop-t.invariant.0 (omega arith)
 
-pub busy-of-spec : {M : Type 1} → statement M
-busy-of-spec =
+pub busy_of_spec : {M : Type 1} → statement M
+busy_of_spec =
     tie.close
     (tie.spec
     invariant-loop

@@ -5,7 +5,7 @@ use Rattle.response.proofs.demand.arrivals_of.Statement.{statement}
 use Rattle.response.proofs.demand.arrivals_of.Tie as tie
 
 returns : tie.Need-returns
-returns c = arrivals-figure _ c.before.before.jitter-of.ensures.is c.before.period-of.ensures.is c.ceiling-of.ensures
+returns c = arrivals-figure _ c.jitter_of.ensures.is c.period_of.ensures.is c.ceiling_of.ensures
 
-pub arrivals-of-spec : {M : Type 1} → statement M
-arrivals-of-spec = tie.close (tie.spec (λ c κs. search rules) (λ c. search rules) (λ c κs. search rules) (λ c κs. search rules) returns)
+pub arrivals_of_spec : {M : Type 1} → statement M
+arrivals_of_spec = tie.close (tie.spec (λ c κs. search rules) (λ c. search rules) (λ c κs. search rules) (λ c κs. search rules) returns)

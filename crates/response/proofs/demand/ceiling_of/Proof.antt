@@ -5,7 +5,7 @@ use Rattle.response.proofs.demand.ceiling_of.Statement.{statement}
 use Rattle.response.proofs.demand.ceiling_of.Tie as tie
 
 returns : tie.Need-returns
-returns c = ceiling-figure c.wide.ensures.0 c.before.requires.0 c.before.requires.1
+returns c = ceiling-figure c.wide.ensures.0 c.requires.0 c.requires.1
 
-pub ceiling-of-spec : {M : Type 1} → statement M
-ceiling-of-spec = tie.close (tie.spec (λ c. search rules) (λ c. search rules) (λ c. search rules) (λ c. search rules) (λ c. search rules) (λ c κs. search rules) returns)
+pub ceiling_of_spec : {M : Type 1} → statement M
+ceiling_of_spec = tie.close (tie.spec (λ c. search rules) (λ c. search rules) (λ c. search rules) (λ c. search rules) (λ c. search rules) (λ c κs. search rules) returns)

@@ -11,28 +11,28 @@ use Rattle.response.proofs.Figures.{member, Gathered, sum-none, sum_more, gather
 use Rattle.response.proofs.demand.demand_of.Statement.{statement}
 use Rattle.response.proofs.demand.demand_of.Tie as tie
 
-abbrev invariant-loop : tie.invariant-loop
+abbrev invariant-loop : tie.invariant-loop-j
 invariant-loop events i span n total₀ j₀ total j = (j ≤ n) × (n ≡ count events) × Gathered sum (interference events i span) j (most_interference * j) total
 
-abbrev decreases-loop : tie.decreases-loop
+abbrev decreases-loop : tie.decreases-loop-j
 decreases-loop events i span n total₀ j₀ total j = n - j
 
-loop-holds : tie.Need-loop-init invariant-loop decreases-loop
-loop-holds c = (search rules, c.count_of.ensures, sum-none)
+loop-holds : tie.Need-loop-j-init invariant-loop decreases-loop
+loop-holds c = (search rules, c.count_of-n.ensures, sum-none)
 
-interference-of-requires : tie.Need-interference-of-requires invariant-loop decreases-loop
+interference-of-requires : tie.Need-interference_of-total-requires invariant-loop decreases-loop
 interference-of-requires c κs =
-    let asked = c.before.before.before.before.requires in
+    let asked = c.requires in
     (asked.0, member asked.0.sound (omega arith), asked.1)
 
-loop-again : tie.Need-loop-preserved invariant-loop decreases-loop
-loop-again c = let known = c.before.before.loop.invariant in (search rules, known.1, sum_more known.2 c.interference-of.ensures)
+loop-again : tie.Need-loop-j-preserved invariant-loop decreases-loop
+loop-again c = let known = c.loop-j.invariant in (search rules, known.1, sum_more known.2 c.interference_of-total.ensures)
 
 returns : tie.Need-returns invariant-loop decreases-loop
-returns c = gathered-all c.before.loop.invariant.2 (omega arith) (omega arith)
+returns c = gathered-all c.loop-j.invariant.2 (omega arith) (omega arith)
 
-pub demand-of-spec : {M : Type 1} → statement M
-demand-of-spec =
+pub demand_of_spec : {M : Type 1} → statement M
+demand_of_spec =
     tie.close
     (tie.spec
     invariant-loop

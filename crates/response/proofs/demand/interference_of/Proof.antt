@@ -6,19 +6,18 @@ use Rattle.response.proofs.Figures.{figure-taken, figure-left, product-most, pro
 use Rattle.response.proofs.demand.interference_of.Statement.{statement}
 use Rattle.response.proofs.demand.interference_of.Tie as tie
 
-mul-result : tie.Need-overflow-mul-result
-mul-result c = omega (arith, product-most c.before.frame-of.ensures.most c.arrivals-of.ensures.most)
+mul-result : tie.Need-overflow_mul-result
+mul-result c = omega (arith, product-most c.frame_of.ensures.most c.arrivals_of.ensures.most)
 
-returns : tie.Need-returns
+returns : tie.Need-returns-then-wins_over
 returns c =
-    let won = c.before.before in
-    figure-taken (sym won.before.wins-over.ensures ∙ won.if1.true) (product-figure c.before.frame-of.ensures c.arrivals-of.ensures)
+    figure-taken (sym c.wins_over.ensures ∙ c.if-wins_over.true) (product-figure c.frame_of.ensures c.arrivals_of.ensures)
 
-returns-2 : tie.Need-returns-2
-returns-2 c = figure-left _ _ (sym c.before.wins-over.ensures ∙ c.if1.false)
+returns-2 : tie.Need-returns
+returns-2 c = figure-left _ _ (sym c.wins_over.ensures ∙ c.if-wins_over.false)
 
-pub interference-of-spec : {M : Type 1} → statement M
-interference-of-spec =
+pub interference_of_spec : {M : Type 1} → statement M
+interference_of_spec =
     tie.close
     (tie.spec
     (λ c κs. search rules)

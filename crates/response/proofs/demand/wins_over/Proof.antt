@@ -6,7 +6,7 @@ use Rattle.response.proofs.demand.wins_over.Statement.{statement}
 use Rattle.response.proofs.demand.wins_over.Tie as tie
 
 returns : tie.Need-returns
-returns c = ap₂ ltb c.before.identifier-of.ensures c.identifier-of2.ensures
+returns c = ap₂ ltb c.identifier_of.ensures c.identifier_of-2.ensures
 
-pub wins-over-spec : {M : Type 1} → statement M
-wins-over-spec = tie.close (tie.spec (λ c κs. search rules) (λ c κs. search rules) returns)
+pub wins_over_spec : {M : Type 1} → statement M
+wins_over_spec = tie.close (tie.spec (λ c κs. search rules) (λ c κs. search rules) returns)

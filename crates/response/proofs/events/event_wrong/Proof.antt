@@ -6,18 +6,17 @@ use Rattle.response.proofs.events.event_wrong.Tie as tie
 
 returns : tie.Need-returns
 returns c =
-    let read = c.before.before in
     wrong-is _ _
-    read.before.before.before.before.word.ensures
-    read.before.before.before.word2.ensures
-    read.before.before.word3.ensures
-    read.before.word4.ensures
-    read.word5.ensures
-    c.before.fields-wrong.ensures
-    c.is-repeated.ensures
+    c.word-id.ensures
+    c.word-size.ensures
+    c.word-period.ensures
+    c.word-jitter.ensures
+    c.word-deadline.ensures
+    c.fields_wrong.ensures
+    c.is_repeated.ensures
 
-pub event-wrong-spec : {M : Type 1} → statement M
-event-wrong-spec =
+pub event_wrong_spec : {M : Type 1} → statement M
+event_wrong_spec =
     tie.close
     (tie.spec
     (λ c κs. search rules)

@@ -11,29 +11,29 @@ use Rattle.response.proofs.Faults.{fault-bad, fault-clear}
 use Rattle.response.proofs.events.first_fault.Statement.{statement}
 use Rattle.response.proofs.events.first_fault.Tie as tie
 
-abbrev invariant-loop : tie.invariant-loop
+abbrev invariant-loop : tie.invariant-loop-j
 invariant-loop events n j₀ j = (j ≤ n) × (n ≡ count events) × ((k : ℕ) → k < j → event_fault events k ≡ Clear)
 
-abbrev decreases-loop : tie.decreases-loop
+abbrev decreases-loop : tie.decreases-loop-j
 decreases-loop events n j₀ j = n - j
 
-loop-holds : tie.Need-loop-init invariant-loop decreases-loop
-loop-holds c = (search rules, c.count_of.ensures, below_none _)
+loop-holds : tie.Need-loop-j-init invariant-loop decreases-loop
+loop-holds c = (search rules, c.count_of-n.ensures, below_none _)
 
-returns : tie.Need-returns invariant-loop decreases-loop
+returns : tie.Need-returns-then-event_wrong invariant-loop decreases-loop
 returns c =
-    sym (first-at _ _ _ _ (omega arith) c.before.before.before.loop.invariant.2 (fault-bad _ _ (sym c.before.event-wrong.ensures ∙ c.if1.true)))
+    sym (first-at _ _ _ _ (omega arith) c.loop-j.invariant.2 (fault-bad _ _ (sym c.event_wrong.ensures ∙ c.if-event_wrong.true)))
 
-loop-again : tie.Need-loop-preserved invariant-loop decreases-loop
+loop-again : tie.Need-loop-j-preserved invariant-loop decreases-loop
 loop-again c =
-    let known = c.before.before.before.loop.invariant in
-    (search rules, known.1, below_more _ _ known.2 (fault-clear _ _ (sym c.before.event-wrong.ensures ∙ c.if1.false)))
+    let known = c.loop-j.invariant in
+    (search rules, known.1, below_more _ _ known.2 (fault-clear _ _ (sym c.event_wrong.ensures ∙ c.if-event_wrong.false)))
 
-returns-2 : tie.Need-returns-2 invariant-loop decreases-loop
-returns-2 c = sym (first-clear _ _ (λ k l. c.before.loop.invariant.2 k (omega arith)))
+returns-2 : tie.Need-returns invariant-loop decreases-loop
+returns-2 c = sym (first-clear _ _ (λ k l. c.loop-j.invariant.2 k (omega arith)))
 
-pub first-fault-spec : {M : Type 1} → statement M
-first-fault-spec =
+pub first_fault_spec : {M : Type 1} → statement M
+first_fault_spec =
     tie.close
     (tie.spec
     invariant-loop

@@ -12,30 +12,30 @@ use Rattle.response.specs.Events.{identifier, repeated}
 use Rattle.response.proofs.events.is_repeated.Statement.{statement}
 use Rattle.response.proofs.events.is_repeated.Tie as tie
 
-abbrev invariant-loop : tie.invariant-loop
+abbrev invariant-loop : tie.invariant-loop-i
 invariant-loop events j id i₀ i = (i ≤ j) × (id ≡ identifier events j) × ((k : ℕ) → k < i → eqb (identifier events k) (identifier events j) ≡ false)
 
-abbrev decreases-loop : tie.decreases-loop
+abbrev decreases-loop : tie.decreases-loop-i
 decreases-loop events j id i₀ i = j - i
 
-loop-holds : tie.Need-loop-init invariant-loop decreases-loop
-loop-holds c = (search rules, c.word.ensures, below_none _)
+loop-holds : tie.Need-loop-i-init invariant-loop decreases-loop
+loop-holds c = (search rules, c.word-id.ensures, below_none _)
 
-returns : tie.Need-returns invariant-loop decreases-loop
+returns : tie.Need-returns-then-word-id invariant-loop decreases-loop
 unfolding repeated
-returns c = sym (some-on _ _ _ (omega arith) (eq-eqb _ _ (sym c.before.word2.ensures ∙ c.if1.true ∙ c.before.before.before.loop.invariant.1)))
+returns c = sym (some-on _ _ _ (omega arith) (eq-eqb _ _ (sym c.word.ensures ∙ c.if-word-id.true ∙ c.loop-i.invariant.1)))
 
-loop-again : tie.Need-loop-preserved invariant-loop decreases-loop
+loop-again : tie.Need-loop-i-preserved invariant-loop decreases-loop
 loop-again c =
-    let known = c.before.before.before.loop.invariant in
-    (search rules, known.1, below_more _ _ known.2 (ne_eqb _ _ (λ q. c.if1.false (c.before.word2.ensures ∙ q ∙ sym known.1))))
+    let known = c.loop-i.invariant in
+    (search rules, known.1, below_more _ _ known.2 (ne_eqb _ _ (λ q. c.if-word-id.false (c.word.ensures ∙ q ∙ sym known.1))))
 
-returns-2 : tie.Need-returns-2 invariant-loop decreases-loop
+returns-2 : tie.Need-returns invariant-loop decreases-loop
 unfolding repeated
-returns-2 c = sym (some-off _ _ (λ k l. c.before.loop.invariant.2 k (omega arith)))
+returns-2 c = sym (some-off _ _ (λ k l. c.loop-i.invariant.2 k (omega arith)))
 
-pub is-repeated-spec : {M : Type 1} → statement M
-is-repeated-spec =
+pub is_repeated_spec : {M : Type 1} → statement M
+is_repeated_spec =
     tie.close
     (tie.spec
     invariant-loop

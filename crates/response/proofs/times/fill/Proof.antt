@@ -13,29 +13,29 @@ use Rattle.response.proofs.Spans.{span-at}
 use Rattle.response.proofs.times.fill.Statement.{statement}
 use Rattle.response.proofs.times.fill.Tie as tie
 
-abbrev invariant-loop : tie.invariant-loop
+abbrev invariant-loop : tie.invariant-loop-i
 invariant-loop events spans times₀ n misses₀ i₀ times misses i =
     (i ≤ n) × (n ≡ count events) × TimesWritten events times₀ times i × Gathered sum (λ k. miss (get_or times k 0)) i (1 * i) misses
 
-abbrev decreases-loop : tie.decreases-loop
+abbrev decreases-loop : tie.decreases-loop-i
 decreases-loop events spans times₀ n misses₀ i₀ times misses i = n - i
 
-loop-holds : tie.Need-loop-init invariant-loop decreases-loop
-loop-holds c = (search rules, c.count_of.ensures, times_none _ _, sum-none)
+loop-holds : tie.Need-loop-i-init invariant-loop decreases-loop
+loop-holds c = (search rules, c.count_of-n.ensures, times_none _ _, sum-none)
 
-time-of-requires : tie.Need-time-of-requires invariant-loop decreases-loop
+time-of-requires : tie.Need-time_of-t-requires invariant-loop decreases-loop
 time-of-requires c κs =
-    let asked = c.before.before.before.before.before.before.before.before.requires in
+    let asked = c.requires in
     (member asked.0 (omega arith), span-at asked.1 (omega arith) c.wide.ensures.0)
 
-loop-again : tie.Need-loop-preserved invariant-loop decreases-loop
+loop-again : tie.Need-loop-i-preserved invariant-loop decreases-loop
 loop-again c =
-    let known = c.before.before.before.before.before.loop.invariant in
-    let time = c.before.time-of.ensures in
-    (search rules, known.1, times_more known.2 (omega arith) time, zeros-more known.2 (omega arith) time known.3 c.miss-of.ensures)
+    let known = c.loop-i.invariant in
+    let time = c.time_of-t.ensures in
+    (search rules, known.1, times_more known.2 (omega arith) time, zeros-more known.2 (omega arith) time known.3 c.miss_of-misses.ensures)
 
 returns : tie.Need-returns invariant-loop decreases-loop
-returns c = let known = c.before.loop.invariant in (times-all known.2 (omega arith), gathered-end known.3 (omega arith))
+returns c = let known = c.loop-i.invariant in (times-all known.2 (omega arith), gathered-end known.3 (omega arith))
 
 pub fill_spec : {M : Type 1} → statement M
 fill_spec =

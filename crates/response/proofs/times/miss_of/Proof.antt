@@ -4,5 +4,5 @@ use Rattle.response.proofs.Figures.{figure-one, figure-left}
 use Rattle.response.proofs.times.miss_of.Statement.{statement}
 use Rattle.response.proofs.times.miss_of.Tie as tie
 
-pub miss-of-spec : {M : Type 1} → statement M
-miss-of-spec = tie.close (tie.spec (λ c. figure-one (eq-eqb _ _ c.if1.true)) (λ c. figure-left _ _ (ne_eqb _ _ c.if1.false)))
+pub miss_of_spec : {M : Type 1} → statement M
+miss_of_spec = tie.close (tie.spec (λ c. figure-one (eq-eqb _ _ c.if-t-eq0.true)) (λ c. figure-left _ _ (ne_eqb _ _ c.if-t-eq0.false)))

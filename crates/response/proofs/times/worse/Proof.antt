@@ -5,5 +5,5 @@ use Rattle.response.specs.Parts.{kept, longer}
 use Rattle.response.proofs.times.worse.Statement.{statement}
 use Rattle.response.proofs.times.worse.Tie as tie
 
-pub worse-spec : {M : Type 1} → statement M
-worse-spec = tie.close (tie.spec (λ c. longer (omega arith) refl) (λ c. kept (omega arith) refl))
+pub worse_spec : {M : Type 1} → statement M
+worse_spec = tie.close (tie.spec (λ c. longer (omega arith) refl) (λ c. kept (omega arith) refl))

@@ -10,113 +10,101 @@ use Rattle.response.proofs.Turns.{left}
 use Rattle.response.proofs.times.worst_within.Statement.{statement}
 use Rattle.response.proofs.times.worst_within.Tie as tie
 
-abbrev invariant-loop : tie.invariant-loop
+abbrev invariant-loop : tie.invariant-loop-q
 invariant-loop events i span limit frame period own instances worst₀ ahead₀ released₀ w₀ q₀ worst ahead released w q =
     Timing events i span frame period own instances
     × Waiting events i span q ahead released w
     × Found events i span q limit worst
     × (q ≤ instances)
 
-abbrev decreases-loop : tie.decreases-loop
+abbrev decreases-loop : tie.decreases-loop-q
 decreases-loop events i span limit frame period own instances worst₀ ahead₀ released₀ w₀ q₀ worst ahead released w q = left w
 
-loop-holds : tie.Need-loop-init invariant-loop decreases-loop
+loop-holds : tie.Need-loop-q-init invariant-loop decreases-loop
 loop-holds c =
-    let read = c.before.before in
-    let asked = read.before.before.before.before.requires in
-    let frame = read.before.before.frame-of.ensures.is in
+    let asked = c.requires in
+    let frame = c.frame_of-frame.ensures.is in
     let timing : Timing _ _ _ _ _ _ _ = record {
       member = asked.0;
       span = asked.1;
       frame_is = frame;
-      period-is = read.before.period-of.ensures.is;
-      own_is = ap₂ ◌+◌ read.jitter-of.ensures.is frame;
-      count-is = c.before.arrivals-of.ensures.is;
+      period-is = c.period_of-period.ensures.is;
+      own_is = ap₂ ◌+◌ c.jitter_of.ensures.is frame;
+      count-is = c.arrivals_of-instances.ensures.is;
     } in
-    (timing, waiting-start asked.1 c.blocking-of.ensures.is, found-start _ _ _ _, omega arith)
+    (timing, waiting-start asked.1 c.blocking_of-ahead.ensures.is, found-start _ _ _ _, omega arith)
 
 -- a turn that climbs
-demand-of-requires : tie.Need-demand-of-requires invariant-loop decreases-loop
-demand-of-requires c κs = let known = c.before.loop.invariant in (known.0.member, omega (arith, wait-most known.0 known.1))
+demand-of-requires : tie.Need-demand_of-requires invariant-loop decreases-loop
+demand-of-requires c κs = let known = c.loop-q.invariant in (known.0.member, omega (arith, wait-most known.0 known.1))
 
-add-demand-of : tie.Need-overflow-add-demand-of invariant-loop decreases-loop
-add-demand-of c = let known = c.before.loop.invariant in omega (arith, wait-most known.0 known.1)
+add-demand-of : tie.Need-overflow_add-w invariant-loop decreases-loop
+add-demand-of c = let known = c.loop-q.invariant in omega (arith, wait-most known.0 known.1)
 
-add-next : tie.Need-overflow-add-next invariant-loop decreases-loop
-add-next c = let known = c.before.before.loop.invariant in next_fits known.0 known.1 c.demand-of.ensures.most
+add-next : tie.Need-overflow_add-next invariant-loop decreases-loop
+add-next c = let known = c.loop-q.invariant in next_fits known.0 known.1 c.demand_of.ensures.most
 
-loop-less : tie.Need-loop-smaller invariant-loop decreases-loop
+loop-less : tie.Need-loop-q-smaller-then-next-w invariant-loop decreases-loop
 loop-less c =
-    let turn = c.before.before in
-    let known = turn.before.loop.invariant in
-    next-falls known.0 known.1 (omega arith) c.before.demand-of.ensures.is c.if1.true
+    let known = c.loop-q.invariant in
+    next-falls known.0 known.1 (omega arith) c.demand_of.ensures.is c.if-next-w.true
 
-loop-again : tie.Need-loop-preserved invariant-loop decreases-loop
+loop-again : tie.Need-loop-q-preserved-then-next-w invariant-loop decreases-loop
 loop-again c =
-    let turn = c.before.before in
-    let known = turn.before.loop.invariant in
-    (known.0, waiting-next known.0 known.1 turn.loop-test.true c.before.demand-of.ensures.is, known.2, known.3)
+    let known = c.loop-q.invariant in
+    (known.0, waiting-next known.0 known.1 c.loop-q-test.true c.demand_of.ensures.is, known.2, known.3)
 
 -- and one at which w has come again
-add-worse : tie.Need-overflow-add-worse invariant-loop decreases-loop
-add-worse c = let known = c.before.before.before.loop.invariant in response-fits known.0 known.1
+add-worse : tie.Need-overflow_add-own-in-loop-q invariant-loop decreases-loop
+add-worse c = let known = c.loop-q.invariant in response-fits known.0 known.1
 
-sub-worse : tie.Need-overflow-sub-worse invariant-loop decreases-loop
+sub-worse : tie.Need-overflow_sub-own invariant-loop decreases-loop
 sub-worse c =
-    let turn = c.before.before in
-    let known = turn.before.loop.invariant in
-    release-before known.0 known.1 turn.loop-test.true c.before.demand-of.ensures.is c.if1.false
+    let known = c.loop-q.invariant in
+    release-before known.0 known.1 c.loop-q-test.true c.demand_of.ensures.is c.if-next-w.false
 
-returns : tie.Need-returns invariant-loop decreases-loop
+returns : tie.Need-returns-then-limit-worst invariant-loop decreases-loop
 returns c =
-    let again = c.before.before.before in
-    let turn = again.before.before in
-    let known = turn.before.loop.invariant in
-    let inside = turn.loop-test.true in
-    let timed = instance-here known.0 known.1 inside again.before.demand-of.ensures.is again.if1.false in
-    found-above known.0 timed known.2 c.before.before.worse.ensures inside c.if2.true
+    let known = c.loop-q.invariant in
+    let inside = c.loop-q-test.true in
+    let timed = instance-here known.0 known.1 inside c.demand_of.ensures.is c.if-next-w.false in
+    found-above known.0 timed known.2 c.worse-worst.ensures inside c.if-limit-worst.true
 
-add-ahead : tie.Need-overflow-add-ahead invariant-loop decreases-loop
-add-ahead c = let known = c.before.before.before.before.before.before.loop.invariant in ahead-fits known.0 known.1
+add-ahead : tie.Need-overflow_add-ahead invariant-loop decreases-loop
+add-ahead c = let known = c.loop-q.invariant in ahead-fits known.0 known.1
 
-add-released : tie.Need-overflow-add-released invariant-loop decreases-loop
+add-released : tie.Need-overflow_add-released invariant-loop decreases-loop
 add-released c =
-    let turn = c.before.before.before.before.before in
-    let known = turn.before.loop.invariant in
-    release-fits known.0 known.1 turn.loop-test.true
+    let known = c.loop-q.invariant in
+    release-fits known.0 known.1 c.loop-q-test.true
 
-add-w : tie.Need-overflow-add-w invariant-loop decreases-loop
-add-w c = let known = c.before.before.before.before.before.before.loop.invariant in later-fits known.0 known.1
+add-w : tie.Need-overflow_add-w-in-loop-q invariant-loop decreases-loop
+add-w c = let known = c.loop-q.invariant in later-fits known.0 known.1
 
-add-q : tie.Need-overflow-add-q invariant-loop decreases-loop
+add-q : tie.Need-overflow_add-q invariant-loop decreases-loop
 add-q c =
-    let turn = c.before.before.before.before.before in
-    let known = turn.before.loop.invariant in
-    instance-fits known.0 known.1 turn.loop-test.true
+    let known = c.loop-q.invariant in
+    instance-fits known.0 known.1 c.loop-q-test.true
 
-loop-less-2 : tie.Need-loop-smaller-2 invariant-loop decreases-loop
+loop-less-2 : tie.Need-loop-q-smaller invariant-loop decreases-loop
 loop-less-2 c =
-    let again = c.before.before.before in
-    let turn = again.before.before in
-    let known = turn.before.loop.invariant in
-    later-falls known.0 known.1 turn.loop-test.true again.before.demand-of.ensures.is again.if1.false
+    let known = c.loop-q.invariant in
+    later-falls known.0 known.1 c.loop-q-test.true c.demand_of.ensures.is c.if-next-w.false
 
-loop-again-2 : tie.Need-loop-preserved-2 invariant-loop decreases-loop
+loop-again-2 : tie.Need-loop-q-preserved invariant-loop decreases-loop
 loop-again-2 c =
-    let again = c.before.before.before in
-    let turn = again.before.before in
-    let known = turn.before.loop.invariant in
-    let inside = turn.loop-test.true in
-    let more = again.before.demand-of.ensures.is in
-    let timed = instance-here known.0 known.1 inside more again.if1.false in
-    let found = found-more known.0 timed known.2 c.before.before.worse.ensures c.if2.false in
-    (known.0, waiting-later known.0 known.1 inside more again.if1.false, found, omega (arith, inside))
+    let known = c.loop-q.invariant in
+    let inside = c.loop-q-test.true in
+    let more = c.demand_of.ensures.is in
+    let timed = instance-here known.0 known.1 inside more c.if-next-w.false in
+    let found = found-more known.0 timed known.2 c.worse-worst.ensures c.if-limit-worst.false in
+    (known.0, waiting-later known.0 known.1 inside more c.if-next-w.false, found, omega (arith, inside))
 
-returns-2 : tie.Need-returns-2 invariant-loop decreases-loop
-returns-2 c = let known = c.before.loop.invariant in found_all known.0 known.2 (omega arith)
+returns-2 : tie.Need-returns invariant-loop decreases-loop
+returns-2 c = let known = c.loop-q.invariant in found_all known.0 known.2 (omega arith)
 
-pub worst-within-spec : {M : Type 1} → statement M
-worst-within-spec =
+pub worst_within_spec : {M : Type 1} → statement M
+worst_within_spec =
     tie.close
     (tie.spec
     invariant-loop
