@@ -1,5 +1,6 @@
 // The planner's look-ahead: whether the messages still unplaced may all find room.
 #![tactic(auto)]
+
 use rules::words;
 
 mod seek;

@@ -42,9 +42,9 @@ loop-again c = let has = c.has_bit.ensures in
     let inv = c.loop-j.invariant in
     let often = sent c.before.before in
     ⊎_elim
-    (λ w. rw (w.9, w.12) (simp length-set inv.0, omega arith, owed-in inv.2 has w.0.taken (omega arith) often.is w.2.ensures.0 w.6.ensures.0))
-    (λ w. rw (w.1, w.4) (inv.0, omega arith, owed-out inv.2 has w.0.left))
-    c.if-has_bit.branch
+    (λ w. rw (w.least-is, w.cost-is) (simp length-set inv.0, omega arith, owed-in inv.2 has w.if-has_bit.true (omega arith) often.is w.cheapest-offer.ensures.0 w.long-cost.ensures.0))
+    (λ w. rw (w.least-is, w.cost-is) (inv.0, omega arith, owed-out inv.2 has w.if-has_bit.false))
+    c.if-has_bit.branch-raw
 
 returns : tie.Need-returns invariant-loop decreases-loop
 returns c = let inv = c.loop-j.invariant in (owed_all (omega arith) inv.2, inv.0)

@@ -20,19 +20,6 @@ abbrev decreases-loop : tie.decreases-loop-k
 decreases-loop p steps table₀ left prices₀ seen₀ sums₀ least₀ u₀ nearest₀ k₀ table prices seen sums least u nearest k =
     16 - k
 
--- from where the gap is known back to where the cheapest places were found, where the sums were, where the round began and where the call did
-abbrev surveyed : tie.After-ahead-gap invariant-loop decreases-loop → tie.After-survey-found invariant-loop decreases-loop
-surveyed c = c.before.before.before.before.before.before
-
-abbrev added : tie.After-ahead-gap invariant-loop decreases-loop → tie.After-add_up invariant-loop decreases-loop
-added c = c.before.before.before.before.before.before.before.before.before.before.before.before
-
-abbrev turn : tie.After-ahead-gap invariant-loop decreases-loop → tie.At-loop-k invariant-loop decreases-loop
-turn c = c.before.before.before.before.before.before.before.before.before.before.before.before.before.before.before.before
-
-abbrev begun : tie.After-ahead-gap invariant-loop decreases-loop → tie.Start invariant-loop decreases-loop
-begun c = (turn c).before.before.before.before
-
 loop-holds : tie.Need-loop-k-init invariant-loop decreases-loop
 loop-holds c = (refl, refl, tight-start c.requires.1.1 c.joint-u.ensures)
 
@@ -51,47 +38,47 @@ returns c =
 
 narrow-requires : tie.Need-narrow-requires invariant-loop decreases-loop
 narrow-requires c κs =
-    let asked = (begun c).requires in
-    (asked.0, (asked.1.0, ((surveyed c).survey-found.ensures.0, (c.worth_of-worth.ensures.1, (turn c).loop-k.invariant.2.long))))
+    let asked = c.requires in
+    (asked.0, (asked.1.0, (c.survey-found.ensures.0, (c.worth_of-worth.ensures.1, c.loop-k.invariant.2.long))))
 
 returns-2 : tie.Need-returns-then-gap-eq0 invariant-loop decreases-loop
 returns-2 c =
-    let owed = (surveyed c).survey-found.ensures.0 in
+    let owed = c.survey-found.ensures.0 in
     let told = c.narrow.ensures in
     let worth = c.worth_of-worth.ensures.0 in
-    let kept = tight-paid (begun c).requires.0 (added c).add_up.ensures.0 worth owed told.0 told.1 (turn c).loop-k.invariant.2 in
+    let kept = tight-paid c.requires.0 c.add_up.ensures.0 worth owed told.0 told.1 c.loop-k.invariant.2 in
     (kept.keeps, kept.long)
 
 joint-requires-2 : tie.Need-joint-fewer-requires invariant-loop decreases-loop
-joint-requires-2 c κs = let asked = (begun c).pre in (asked.0, asked.1.0)
+joint-requires-2 c κs = let asked = c.requires in (asked.0, asked.1.0)
 
 start-requires : tie.Need-start-requires invariant-loop decreases-loop
-start-requires c κs = let asked = (begun c).pre in (asked.0, asked.1.0)
+start-requires c κs = let asked = c.requires in (asked.0, asked.1.0)
 
 weight-of-requires : tie.Need-weight_of-requires invariant-loop decreases-loop
-weight-of-requires c κs = (begun c).pre.0
+weight-of-requires c κs = c.requires.0
 
 step-requires : tie.Need-step-requires invariant-loop decreases-loop
-step-requires c κs = ((begun c).pre.0, omega arith)
+step-requires c κs = (c.requires.0, omega arith)
 
 -- what a round leaves: the table without the places that are too dear and its cells taken anew, or these as they were, or both as they were
 round : (c : tie.Joined-gap-nearest invariant-loop decreases-loop)
-    → Tight (begun c).args.p.now (begun c).args.left (begun c).args.table.now c.if-gap-nearest.table c.if-gap-nearest.u
+    → Tight c.args.p.now c.args.left c.args.table.now c.if-gap-nearest.table c.if-gap-nearest.u
 round c =
-    let few = (begun c).pre.0 in
-    let sums = (added c).add_up.ensures.0 in
+    let few = c.requires.0 in
+    let sums = c.add_up.ensures.0 in
     let worth = c.worth_of-worth.ensures.0 in
-    let owed = (surveyed c).survey-found.ensures.0 in
-    let kept = (turn c).loop-k.inv.2 in
+    let owed = c.survey-found.ensures.0 in
+    let kept = c.loop-k.invariant.2 in
     ⊎_elim
-    (λ w. rw (w.9, w.10) (tight-joint w.8.ensures (tight-paid few sums worth owed w.4.ensures.0 w.4.ensures.1 kept)))
+    (λ w. rw (w.table-is, w.u-is) (tight-joint w.joint-fewer.ensures (tight-paid few sums worth owed w.narrow.ensures.0 w.narrow.ensures.1 kept)))
     (⊎_elim
-    (λ w. rw (w.6, w.7) (tight-paid few sums worth owed w.4.ensures.0 w.4.ensures.1 kept))
-    (λ w. rw (w.1, w.2) kept))
-    c.if-gap-nearest.branch
+    (λ w. rw (w.table-is, w.u-is) (tight-paid few sums worth owed w.narrow.ensures.0 w.narrow.ensures.1 kept))
+    (λ w. rw (w.table-is, w.u-is) kept))
+    c.if-gap-nearest.branch-raw
 
 loop-again : tie.Need-loop-k-preserved invariant-loop decreases-loop
-loop-again c = ((added c).add_up.ensures.1, (surveyed c).survey-found.ensures.1, round c.before)
+loop-again c = (c.add_up.ensures.1, c.survey-found.ensures.1, round c.before)
 
 returns-3 : tie.Need-returns invariant-loop decreases-loop
 returns-3 c = let kept = c.loop-k.invariant.2 in (kept.keeps, kept.long)
