@@ -6,7 +6,7 @@ use native.Mathlib.Omega.{arith}
 use lib.Dec.{eqb-suc-zero}
 use Rattle.basics.specs.Sums.{sum}
 use Rattle.basics.proofs.Sums.{sum-each}
-use Rattle.rules.specs.Problem.{rows, cycle, matrix, columns, width}
+use Rattle.rules.specs.Problem.{rows, matrix, columns, width}
 use Rattle.proposal.specs.Accepted.{Accepted}
 use Rattle.losses.specs.Losses.{reference, used, window_loss, empty, gaps, over_cells}
 use Rattle.losses.specs.Parts.{Part, used-part, window-part, empty-part, share}

@@ -5,11 +5,11 @@ use borrow.Author.Rules.{rules}
 use Rattle.losses.proofs.add_cell.Statement.{statement}
 use Rattle.losses.proofs.add_cell.Tie as tie
 
-returns : tie.Need-returns
-returns c = added-empty c.before.if1.true (omega arith) (omega arith) (omega arith)
+returns : tie.Need-returns-then-x-eq0
+returns c = added-empty c.if-x-eq0.true (omega arith) (omega arith) (omega arith)
 
-returns-2 : tie.Need-returns-2
-returns-2 c = added-held c.before.before.if1.false (omega arith) (omega arith) (omega arith)
+returns-2 : tie.Need-returns
+returns-2 c = added-held c.if-x-eq0.false (omega arith) (omega arith) (omega arith)
 
-pub add-cell-spec : {M : Type 1} → statement M
-add-cell-spec = tie.close (tie.spec (λ c. search rules) returns (λ c. search rules) (λ c. search rules) (λ c. search rules) returns-2)
+pub add_cell_spec : {M : Type 1} → statement M
+add_cell_spec = tie.close (tie.spec (λ c. search rules) returns (λ c. search rules) (λ c. search rules) (λ c. search rules) returns-2)

@@ -10,59 +10,51 @@ use borrow.Author.Rules.{rules}
 use Rattle.losses.proofs.add_row.Statement.{statement}
 use Rattle.losses.proofs.add_row.Tie as tie
 
-abbrev invariant-loop : tie.invariant-loop
+abbrev invariant-loop : tie.invariant-loop-c
 invariant-loop p table i columns sum₀ c₀ sum c = (c ≤ columns) × RowAdded p table i c sum₀ sum
 
-abbrev decreases-loop : tie.decreases-loop
+abbrev decreases-loop : tie.decreases-loop-c
 decreases-loop p table i columns sum₀ c₀ sum c = columns - c
 
-loop-holds : tie.Need-loop-init invariant-loop decreases-loop
+loop-holds : tie.Need-loop-c-init invariant-loop decreases-loop
 loop-holds c = (omega arith, row-none)
 
-cell-of-requires : tie.Need-cell-of-requires invariant-loop decreases-loop
-cell-of-requires c κs = let formed = c.before.before.before.before.requires.0.0 in (omega (arith, formed.header.rows-most), omega arith)
+cell-of-requires : tie.Need-cell_of-requires invariant-loop decreases-loop
+cell-of-requires c κs = let formed = c.requires.0.0 in (omega (arith, formed.header.rows-most), omega arith)
 
 -- what was read is the number of the cell, and what is asked for it how long the cell is held
-read : (c : tie.After-wide-byte invariant-loop decreases-loop)
-    → let looped = c.before.before.before.before in let args = looped.before.before.before.args in c.wide-byte.result ≡ number_in args.table.now args.i looped.loop.c
+read : (c : tie.After-wide_byte invariant-loop decreases-loop)
+    → let args = c.args in c.wide_byte.result ≡ number_in args.table.now args.i c.loop-c.c
 read c =
-    let celled = c.before.before in
-    let start = celled.before.before.before.before.before in
-    c.wide-byte.ensures.0 ∙ ap (λ (k : ℕ). get_or start.args.table.now k 0) celled.cell-of.ensures.0
+    c.wide_byte.ensures.0 ∙ ap (λ (k : ℕ). get_or c.args.table.now k 0) c.cell_of.ensures.0
 
-held-for-requires : tie.Need-held-for-requires invariant-loop decreases-loop
+held-for-requires : tie.Need-held_for-requires invariant-loop decreases-loop
 held-for-requires c κs =
-    let looped = c.before.before.before.before in
-    let start = looped.before.before.before in
-    (start.requires.0.0, omega (arith, read c, start.requires.0.1.number-most start.args.i looped.loop.c start.requires.0.2 (omega arith)))
+    (c.requires.0.0, omega (arith, read c, c.requires.0.1.number-most c.args.i c.loop-c.c c.requires.0.2 (omega arith)))
 
-held : (c : tie.After-held-for invariant-loop decreases-loop)
-    → let looped = c.before.before.before.before.before in
-    let args = looped.before.before.before.args in c.held-for.result ≡ held_by args.p.now (number_in args.table.now args.i looped.loop.c)
-held c = c.held-for.ensures ∙ ap (held_by c.before.before.before.before.before.before.before.before.args.p.now) (read c.before)
+held : (c : tie.After-held_for invariant-loop decreases-loop)
+    →
+    let args = c.args in c.held_for.result ≡ held_by args.p.now (number_in args.table.now args.i c.loop-c.c)
+held c = c.held_for.ensures ∙ ap (held_by c.args.p.now) (read c.before)
 
-width-of-requires : tie.Need-width-of-requires invariant-loop decreases-loop
-width-of-requires c κs = (c.before.before.before.before.before.before.before.before.requires.0.0, omega arith)
+width-of-requires : tie.Need-width_of-requires invariant-loop decreases-loop
+width-of-requires c κs = (c.requires.0.0, omega arith)
 
-add-cell-requires : tie.Need-add-cell-requires invariant-loop decreases-loop
+add-cell-requires : tie.Need-add_cell-next-requires invariant-loop decreases-loop
 add-cell-requires c κs =
-    let asked = c.before in
-    let looped = asked.before.before.before.before.before in
-    let start = looped.before.before.before in
-    let now = row_small start.requires.0.0 start.requires.0.1 start.requires.0.2 (omega arith) start.requires.1 looped.loop.invariant.1 in
-    let fits = start.requires.0.1.each start.args.i looped.loop.c start.requires.0.2 (omega arith) in
-    (now, omega (arith, held asked, fits), omega arith)
+    let now = row_small c.requires.0.0 c.requires.0.1 c.requires.0.2 (omega arith) c.requires.1 c.loop-c.invariant.1 in
+    let fits = c.requires.0.1.each c.args.i c.loop-c.c c.requires.0.2 (omega arith) in
+    (now, omega (arith, held c.before, fits), omega arith)
 
-loop-again : tie.Need-loop-preserved invariant-loop decreases-loop
+loop-again : tie.Need-loop-c-preserved invariant-loop decreases-loop
 loop-again c =
-    let asked = c.before.before in
-    (omega arith, row_more asked.before.before.before.before.before.loop.invariant.1 (held asked) c.before.width_of_lem.ensures.is c.add-cell.ensures)
+    (omega arith, row_more c.loop-c.invariant.1 (held c.before.before) c.width_of.ensures.is c.add_cell-next.ensures)
 
 returns : tie.Need-returns invariant-loop decreases-loop
-returns c = let looped = c.before in row-all looped.loop.invariant.1 looped.before.columns_of.ensures.0 (omega arith) (omega arith)
+returns c = row-all c.loop-c.invariant.1 c.columns_of-columns.ensures.0 (omega arith) (omega arith)
 
-pub add-row-spec : {M : Type 1} → statement M
-add-row-spec =
+pub add_row_spec : {M : Type 1} → statement M
+add_row_spec =
     tie.close
     (tie.spec
     invariant-loop

@@ -8,30 +8,28 @@ use Rattle.losses.proofs.Tallies.{tallied-none, tallied-more, tallied-all, talli
 use Rattle.losses.proofs.all_cells.Statement.{statement}
 use Rattle.losses.proofs.all_cells.Tie as tie
 
-abbrev invariant-loop : tie.invariant-loop
+abbrev invariant-loop : tie.invariant-loop-i
 invariant-loop p table rows sum₀ i₀ sum i = (i ≤ rows) × Tallied p table i sum
 
-abbrev decreases-loop : tie.decreases-loop
+abbrev decreases-loop : tie.decreases-loop-i
 decreases-loop p table rows sum₀ i₀ sum i = rows - i
 
-loop-holds : tie.Need-loop-init invariant-loop decreases-loop
+loop-holds : tie.Need-loop-i-init invariant-loop decreases-loop
 loop-holds c = (omega arith, tallied-none refl refl refl)
 
-add-row-requires : tie.Need-add-row-requires invariant-loop decreases-loop
+add-row-requires : tie.Need-add_row-next-requires invariant-loop decreases-loop
 add-row-requires c κs =
-    let looped = c.before in
-    let start = looped.before.before.before in
-    let small = tallied-small start.requires.0 start.requires.1 (omega arith) looped.loop.invariant.1 in
-    ((start.requires.0, start.requires.1, omega arith), small)
+    let small = tallied-small c.requires.0 c.requires.1 (omega arith) c.loop-i.invariant.1 in
+    ((c.requires.0, c.requires.1, omega arith), small)
 
-loop-again : tie.Need-loop-preserved invariant-loop decreases-loop
-loop-again c = (omega arith, tallied-more c.before.before.loop.invariant.1 c.add_row.ensures)
+loop-again : tie.Need-loop-i-preserved invariant-loop decreases-loop
+loop-again c = (omega arith, tallied-more c.loop-i.invariant.1 c.add_row-next.ensures)
 
 returns : tie.Need-returns invariant-loop decreases-loop
-returns c = let looped = c.before in tallied-all looped.loop.invariant.1 looped.before.rows_of_lem.ensures.0 (omega arith) (omega arith)
+returns c = tallied-all c.loop-i.invariant.1 c.rows_of-rows.ensures.0 (omega arith) (omega arith)
 
-pub all-cells-spec : {M : Type 1} → statement M
-all-cells-spec =
+pub all_cells_spec : {M : Type 1} → statement M
+all_cells_spec =
     tie.close
     (tie.spec
     invariant-loop

@@ -13,45 +13,36 @@ use Rattle.losses.proofs.figures.Tie as tie
 
 fill-requires : tie.Need-fill-requires
 fill-requires c κs =
-    let start = c.before.before.before in
-    (start.requires, table_none start.args.p.now start.args.w.now start.requires.formed)
+    (c.requires, table_none c.args.p.now c.args.w.now c.requires.formed)
 
-all-cells-requires : tie.Need-all-cells-requires
+all-cells-requires : tie.Need-all_cells-tally-requires
 all-cells-requires c κs =
-    let start = c.before.before.before.before.before in
-    (start.requires.formed, table_fits start.requires c.before.fill.ensures)
+    (c.requires.formed, table_fits c.requires c.fill.ensures)
 
 -- the tally is small, and so are the products of the rows with the reference window and with the gaps
-small : (c : tie.After-all-cells) → Small cells_most c.all-cells.result
+small : (c : tie.After-all_cells-tally) → Small cells_most c.all_cells-tally.result
 small c =
-    let marked = c.before.before in
-    let start = marked.before.before.before.before in
-    all_small start.requires.formed (table_fits start.requires marked.fill.ensures) c.all-cells.ensures
+    all_small c.requires.formed (table_fits c.requires c.fill.ensures) c.all_cells-tally.ensures
 
-reference-small : (c : tie.After-ref-len-of) → c.before.rows_of_lem.result * c.ref-len-of.result ≤ most_rows * longest
-reference-small c = mul-le-mul c.before.rows_of_lem.ensures.2 c.ref-len-of.ensures.1
+reference-small : (c : tie.After-ref_len_of) → c.rows_of-rows.result * c.ref_len_of.result ≤ most_rows * longest
+reference-small c = mul-le-mul c.rows_of-rows.ensures.2 c.ref_len_of.ensures.1
 
-gaps-small : (c : tie.After-gap-of) → c.before.before.before.before.before.rows_of_lem.result * c.gap_of.result ≤ most_rows * longest
-gaps-small c = mul-le-mul c.before.before.before.before.before.rows_of_lem.ensures.2 c.gap_of.ensures.1
+gaps-small : (c : tie.After-gap_of) → c.rows_of-rows.result * c.gap_of.result ≤ most_rows * longest
+gaps-small c = mul-le-mul c.rows_of-rows.ensures.2 c.gap_of.ensures.1
 
 returns : tie.Need-returns
 returns c =
-    let referred = c.before.before.before.before in
-    let rowed = referred.before in
-    let tallied = rowed.before in
-    let marked = tallied.before.before in
-    let start = marked.before.before.before.before in
-    let cells = tally-is start.requires marked.fill.ensures tallied.all-cells.ensures in
+    let cells = tally-is c.requires c.fill.ensures c.all_cells-tally.ensures in
     record {
-      reference-is = ap₂ ◌*◌ rowed.rows_of_lem.ensures.0 referred.ref-len-of.ensures.0;
+      reference-is = ap₂ ◌*◌ c.rows_of-rows.ensures.0 c.ref_len_of.ensures.0;
       used-is = cells used-part;
       in-window-is = cells window-part;
       empty-is = cells empty-part;
-      gaps-is = ap₂ ◌*◌ rowed.rows_of_lem.ensures.0 c.gap_of.ensures.0;
+      gaps-is = ap₂ ◌*◌ c.rows_of-rows.ensures.0 c.gap_of.ensures.0;
     }
 
-pub figures-spec : {M : Type 1} → statement M
-figures-spec =
+pub figures_spec : {M : Type 1} → statement M
+figures_spec =
     tie.close
     (tie.spec
     fill-requires

@@ -14,13 +14,12 @@ by-message : (p : List ℕ) (x : ℕ) → ¬ (x ≡ 0) → lasts p (x - 1) ≡ h
 by-message p zero h = absurd (h refl)
 by-message p (suc j) h = ap (lasts p) (omega arith)
 
-frame-of-requires : tie.Need-frame-of-requires
-frame-of-requires c κs = member c.before.before.requires.0 (omega arith)
+frame-of-requires : tie.Need-frame_of-requires
+frame-of-requires c κs = member c.requires.0 (omega arith)
 
-returns-2 : tie.Need-returns-2
+returns-2 : tie.Need-returns
 returns-2 c =
-    let left = c.before in
-    c.frame-of.ensures.is ∙ by-message left.before.before.args.p.now left.before.before.args.x left.if1.false
+    c.frame_of.ensures.is ∙ by-message c.args.p.now c.args.x c.if-x-eq0.false
 
-pub held-for-spec : {M : Type 1} → statement M
-held-for-spec = tie.close (tie.spec (λ c. search rules) (λ c. search rules) frame-of-requires returns-2)
+pub held_for_spec : {M : Type 1} → statement M
+held_for_spec = tie.close (tie.spec (λ c. search rules) (λ c. search rules) frame-of-requires returns-2)
