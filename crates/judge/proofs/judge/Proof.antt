@@ -7,28 +7,26 @@ use borrow.Author.Rules.{rules}
 use Rattle.judge.proofs.judge.Statement.{statement}
 use Rattle.judge.proofs.judge.Tie as tie
 
-returns : tie.Need-returns
+returns : tie.Need-returns-in_default
 returns c =
-    let told = c.before in
-    judging-refused (refused-is told.before.before.before.accept.ensures told.enum_told.given.1 c.refusal-of.ensures)
+    judging-refused (refused-is c.accept-got.ensures c.in_default.is c.refusal_of-why.ensures)
 
 -- where the answer is a problem, the buffer begins with its words
-array-share-prefix-words : tie.Need-array-share-prefix-words
-array-share-prefix-words c = let got = c.before in (got.before.before.before.accept.ensures.opens _ got.got.given.1).within
+array-share-prefix-words : tie.Need-slice_bounds-words-end
+array-share-prefix-words c = (c.accept-got.ensures.opens _ c.in-Problem.is).within
 
-slice-aggregate-problem : tie.Need-slice-aggregate-problem
-slice-aggregate-problem c = let got = c.before.before in sym (admitted-length (got.before.before.before.accept.ensures.opens _ got.got.given.1))
+slice-aggregate-problem : tie.Need-slice_bounds-problem-end
+slice-aggregate-problem c = sym (admitted-length (c.accept-got.ensures.opens _ c.in-Problem.is))
 
-figures-requires : tie.Need-figures-requires
-figures-requires c κs = let got = c.before.before in (got.before.before.before.accept.ensures.opens _ got.got.given.1).accepted
+figures-requires : tie.Need-figures-lost-requires
+figures-requires c κs = (c.accept-got.ensures.opens _ c.in-Problem.is).accepted
 
-returns-2 : tie.Need-returns-2
+returns-2 : tie.Need-returns
 returns-2 c =
-    let got = c.before.before.before in
-    judging-accepted (got.before.before.before.accept.ensures.opens _ got.got.given.1) c.figures.ensures
+    judging-accepted (c.accept-got.ensures.opens _ c.in-Problem.is) c.figures-lost.ensures
 
-pub judge-spec : {M : Type 1} → statement M
-judge-spec =
+pub judge_spec : {M : Type 1} → statement M
+judge_spec =
     tie.close
     (tie.spec
     (λ c. search rules)
