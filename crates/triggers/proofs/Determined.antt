@@ -16,12 +16,12 @@ not-both-ways p w s t (by-mark a) (by_row b c) = omega arith
 not-both-ways p w s t (by_row a c) (by-mark b) = omega arith
 not-both-ways p w s t (by_row a c) (by_row b d) = omega arith
 
-pub list-one : {p w : List ℕ} {n : ℕ} {l m : List Source} → ListOf p w n l → ListOf p w n m → l ≡ m
-list-one {p} {w} a b = in-order-one (not-both-ways p w) a b
+pub list-one : {p w : List ℕ} (n : ℕ) {l m : List Source} → ListOf p w n l → ListOf p w n m → l ≡ m
+list-one {p} {w} n a b = in-order-one (not-both-ways p w) a b
 
 pub lists-one : {p w x y : List ℕ} → Lists p w x → Lists p w y → x ≡ y
 lists-one {p} {w} a b =
-    let same : (n : ℕ) → n < nodes → a.list n ≡ b.list n = λ n l. list-one (a.each n l) (b.each n l) in
+    let same : (n : ℕ) → n < nodes → a.list n ≡ b.list n = λ n l. list-one n (a.each n l) (b.each n l) in
     a.words
     ∙ ap₂ ◌++◌
     (run-same (λ n. length (a.list n) ∷ []) (λ n. length (b.list n) ∷ []) nodes (λ n l. ap (λ (t : List Source). length t ∷ []) (same n l)))

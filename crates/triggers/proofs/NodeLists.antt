@@ -126,5 +126,5 @@ module _ {p w : List ℕ} (a : Accepted p w) where
       (λ j l. ap (λ (i : ℕ). only (concerns p n i) 1) (packed-number j l) ∙ once p n a.formed j l) in
       omega arith
 
-  pub length-list : {n : ℕ} {l : List Source} → ListOf p w n l → length l ≡ triggers p n
-  length-list {n} h = ap length (list-one h (list-for n)) ∙ length-for n
+  pub length-list : (n : ℕ) {l : List Source} → ListOf p w n l → length l ≡ triggers p n
+  length-list n h = ap length (list-one n h (list-for n)) ∙ length-for n
