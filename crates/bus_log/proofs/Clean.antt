@@ -22,7 +22,7 @@ use Rattle.bus_log.specs.Span.{IsDue}
 use Rattle.bus_log.specs.Against.{Differing, Against, clean, differs}
 use Rattle.bus_log.specs.Promise.{hold_fault, Holding, DueWritten}
 use Rattle.bus_log.proofs.Determined.{due-one}
-use Rattle.bus_log.proofs.Held.{log-right, pair-shared, holding-one}
+use Rattle.bus_log.proofs.HeldLog.{log-right, pair-shared, holding-one}
 use Rattle.bus_log.proofs.Results.{Listed, written_listed, written-size}
 
 module _ (f w log : List ℕ) (span : ℕ) where

@@ -14,5 +14,5 @@ pub mod Early
 pub mod Tables
 pub mod Rest
 pub mod Results
-pub mod Held
+pub mod HeldLog
 pub mod Clean

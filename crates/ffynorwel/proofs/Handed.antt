@@ -11,7 +11,7 @@ use Rattle.judge.proofs.Promise.{judging-one}
 use Rattle.triggers.specs.Promise.{Listing}
 use Rattle.triggers.proofs.Results.{listing-one}
 use Rattle.bus_log.specs.Promise.{Holding, DueWritten}
-use Rattle.bus_log.proofs.Held.{holding-one}
+use Rattle.bus_log.proofs.HeldLog.{holding-one}
 use Rattle.bus_log.proofs.Results.{due-written-one}
 use Rattle.planner.specs.Promise.{Planning, Replanning}
 use Rattle.planner.proofs.Unique.{planning-one, replanning-one}

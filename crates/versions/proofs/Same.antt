@@ -12,7 +12,7 @@ use Rattle.triggers.proofs.Results.{listing-one}
 use Rattle.bus_log.specs.declared.answer.Held.{Held}
 use Rattle.bus_log.specs.declared.answer.Due.{Due}
 use Rattle.bus_log.specs.Promise.{Holding, DueWritten}
-use Rattle.bus_log.proofs.Held.{holding-one}
+use Rattle.bus_log.proofs.HeldLog.{holding-one}
 use Rattle.bus_log.proofs.Results.{due-written-one}
 use Rattle.planner.specs.declared.answer.Planned.{Planned}
 use Rattle.planner.specs.Promise.{Planning, Replanning}

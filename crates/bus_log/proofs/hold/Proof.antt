@@ -8,7 +8,7 @@ use lib.ListN.{length}
 use native.Mathlib.Omega.{arith}
 use Rattle.proposal.proofs.Accepting.{admitted-length}
 use Rattle.bus_log.specs.Promise.{wrong_span}
-use Rattle.bus_log.proofs.Held.{log-right, file-refused, log-refused, log-accepted}
+use Rattle.bus_log.proofs.HeldLog.{log-right, file-refused, log-refused, log-accepted}
 use borrow.Author.Rules.{rules}
 use Rattle.bus_log.proofs.hold.Statement.{statement}
 use Rattle.bus_log.proofs.hold.Tie as tie
