@@ -9,7 +9,7 @@ use Rattle.lookahead.proofs.Trying.{shut_none, narrowed-tried, cautious-no}
 use Rattle.lookahead.proofs.+possible.Goals.{then-not-asked, else-not-asked}
 use Rattle.lookahead.proofs.+possible.Goals as goal
 
--- src/lib.rt:110:13
+-- ---- a message without a place
 pub returns-then-step-r-clause-cautious : goal.returns-then-step-r-clause-cautious
 returns-then-step-r-clause-cautious t c =
     let inv = c.loop-tries.invariant in
@@ -17,7 +17,7 @@ returns-then-step-r-clause-cautious t c =
     let often : Repeat c.args.p.now c.loop-tries.m (slice_index_or c.args.steps.now c.loop-tries.m 0) = c.requires.steps.each _ inside in
     cautious-no inv.3 (shut_none inside (inv.2.inside inside) c.first_row-r.ensures (omega (arith, often.is, c.if-step-r.true)))
 
--- src/lib.rt:103:5
+-- ---- a place that left the others no room
 pub loop-tries-preserved : goal.loop-tries-preserved
 loop-tries-preserved t c =
     let inv = c.loop-tries.invariant in
