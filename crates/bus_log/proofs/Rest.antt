@@ -7,7 +7,7 @@ use lib.ListN.{length, get_or, take, drop, length-append, length-drop, get_or-ap
 use lib.Seq.{get_or-take, get_or-drop, length-take-le}
 use Rattle.basics.specs.Runs.{run}
 use Rattle.basics.proofs.Runs.{run-split}
-use Rattle.rules.specs.Problem.{most_rows, rows, cycle, matrix, messages}
+use Rattle.rules.specs.Problem.{most_rows, rows, matrix, messages}
 use Rattle.rules.proofs.Bounds.{rows-least}
 use Rattle.proposal.specs.Accepted.{Accepted}
 use Rattle.cells.specs.Table.{Table}

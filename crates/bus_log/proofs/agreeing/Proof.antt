@@ -8,36 +8,32 @@ use borrow.Author.Rules.{rules}
 use Rattle.bus_log.proofs.agreeing.Statement.{statement}
 use Rattle.bus_log.proofs.agreeing.Tie as tie
 
-abbrev invariant-loop : tie.invariant-loop
+abbrev invariant-loop : tie.invariant-loop-at
 invariant-loop due later log most at₀ at = Agreed due later log at
 
-abbrev decreases-loop : tie.decreases-loop
+abbrev decreases-loop : tie.decreases-loop-at
 decreases-loop due later log most at₀ at = most - at
 
-loop-holds : tie.Need-loop-init invariant-loop decreases-loop
+loop-holds : tie.Need-loop-at-init invariant-loop decreases-loop
 loop-holds c = agreed-none
 
-loop-again : tie.Need-loop-preserved invariant-loop decreases-loop
+loop-again : tie.Need-loop-at-preserved invariant-loop decreases-loop
 loop-again c =
-    let looped = c.before.before.before.before.before.before.before.before.before in
-    let start = looped.before.before.before.before in
-    agreed-more start.requires.0 start.requires.1 (omega arith) (omega arith) looped.loop.invariant (record { time = omega arith; identifier = omega arith })
+    agreed-more c.requires.0 c.requires.1 (omega arith) (omega arith) c.loop-at.invariant (record { time = omega arith; identifier = omega arith })
 
-returns : tie.Need-returns invariant-loop decreases-loop
-returns c = record { agreed = c.before.loop.invariant; stops = λ lx ll f. omega arith }
+returns : tie.Need-returns-after-loop-at invariant-loop decreases-loop
+returns c = record { agreed = c.loop-at.invariant; stops = λ lx ll f. omega arith }
 
-returns-2 : tie.Need-returns-2 invariant-loop decreases-loop
+returns-2 : tie.Need-returns-then-wide-later invariant-loop decreases-loop
 returns-2 c =
-    let looped = c.before.before.before.before.before.before in
-    record { agreed = looped.loop.invariant; stops = λ lx ll f. omega (arith, f.time) }
+    record { agreed = c.loop-at.invariant; stops = λ lx ll f. omega (arith, f.time) }
 
-returns-3 : tie.Need-returns-3 invariant-loop decreases-loop
+returns-3 : tie.Need-returns-then-log-at invariant-loop decreases-loop
 returns-3 c =
-    let looped = c.before.before.before.before.before.before.before.before.before in
-    record { agreed = looped.loop.invariant; stops = λ lx ll f. omega (arith, f.identifier) }
+    record { agreed = c.loop-at.invariant; stops = λ lx ll f. omega (arith, f.identifier) }
 
-pub agreeing-spec : {M : Type 1} → statement M
-agreeing-spec =
+pub agreeing_spec : {M : Type 1} → statement M
+agreeing_spec =
     tie.close
     (tie.spec
     invariant-loop

@@ -12,50 +12,34 @@ use borrow.Author.Rules.{rules}
 use Rattle.bus_log.proofs.due.Statement.{statement}
 use Rattle.bus_log.proofs.due.Tie as tie
 
-returns : tie.Need-returns
+returns : tie.Need-returns-in_default
 returns c =
-    let told = c.before in
-    let tested = told.before.before.before in
-    let start = tested.before.before.before.before.before in
-    due-file-refused _ _ _ start.args.list.now tested.accept.ensures told.enum_told.given.1 c.refusal-of.ensures
+    due-file-refused _ _ _ c.args.list.now c.accept-got.ensures c.in_default.is c.refusal_of.ensures
 
-returns-2 : tie.Need-returns-2
+returns-2 : tie.Need-returns-then-is_outside
 returns-2 c =
-    let outside = c.before in
-    let got = outside.before.before in
-    let tested = got.before.before.before in
-    let start = tested.before.before.before.before.before in
-    due-span-refused _ _ _ start.args.list.now (tested.accept.ensures.opens _ got.got.given.1) (sym outside.is-outside.ensures ∙ c.if1.true)
+    due-span-refused _ _ _ c.args.list.now (c.accept-got.ensures.opens _ c.in-Problem.is) (sym c.is_outside.ensures ∙ c.if-is_outside.true)
 
 -- behind the test the span is a right one
-span_right : (c : tie.Else1) → wrong_span c.before.before.before.before.before.before.before.before.before.before.before.args.span ≡ false
-span_right c = sym c.before.is-outside.ensures ∙ c.if1.false
+span_right : (c : tie.Else-is_outside) → wrong_span c.args.span ≡ false
+span_right c = sym c.is_outside.ensures ∙ c.if-is_outside.false
 
-array-share-prefix-buffer : tie.Need-array-share-prefix-buffer
-array-share-prefix-buffer c = let got = c.before.before.before in (got.before.before.before.accept.ensures.opens _ got.got.given.1).within
+array-share-prefix-buffer : tie.Need-slice_bounds-buffer-end
+array-share-prefix-buffer c = (c.accept-got.ensures.opens _ c.in-Problem.is).within
 
-slice-aggregate-due-accepted : tie.Need-slice-aggregate-due-accepted
-slice-aggregate-due-accepted c = let got = c.before.before.before.before in sym (admitted-length (got.before.before.before.accept.ensures.opens _ got.got.given.1))
+slice-aggregate-due-accepted : tie.Need-slice_bounds-due_accepted-end
+slice-aggregate-due-accepted c = sym (admitted-length (c.accept-got.ensures.opens _ c.in-Problem.is))
 
-due-accepted-requires : tie.Need-due-accepted-requires
+due-accepted-requires : tie.Need-due_accepted-requires
 due-accepted-requires c κs =
-    let spanned = c.before.before.before in
-    let got = spanned.before.before.before in
-    let tested = got.before.before.before in
-    let start = tested.before.before.before.before.before in
-    ((tested.accept.ensures.opens _ got.got.given.1).accepted, omega (arith, within start.args.span 1 most_span (span_right spanned)))
+    ((c.accept-got.ensures.opens _ c.in-Problem.is).accepted, omega (arith, within c.args.span 1 most_span (span_right c.before.before.before)))
 
-returns-3 : tie.Need-returns-3
+returns-3 : tie.Need-returns
 returns-3 c =
-    let called = c.before.before in
-    let widened = called.before.before in
-    let spanned = widened.before.before in
-    let got = spanned.before.before.before in
-    let tested = got.before.before.before in
-    due-span-accepted _ _ _ _ (tested.accept.ensures.opens _ got.got.given.1) (span_right spanned) widened.wide.ensures.0 called.due-accepted.ensures
+    due-span-accepted _ _ _ _ (c.accept-got.ensures.opens _ c.in-Problem.is) (span_right c.before.before.before.before.before.before) c.wide.ensures.0 c.due_accepted.ensures
 
-pub due-spec : {M : Type 1} → statement M
-due-spec =
+pub due_spec : {M : Type 1} → statement M
+due_spec =
     tie.close
     (tie.spec
     (λ c. search rules)

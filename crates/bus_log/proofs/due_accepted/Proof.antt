@@ -13,44 +13,32 @@ use Rattle.bus_log.proofs.due_accepted.Statement.{statement}
 use Rattle.bus_log.proofs.due_accepted.Tie as tie
 
 -- no span has more sends or rows
-sends-few : (c : tie.After-cycle-sends) → c.cycle-sends.result * c.before.before.before.before.args.span ≤ cycle_most * most_span
-sends-few c = mul-le-mul c.cycle-sends.ensures.1 c.before.before.before.before.requires.1
+sends-few : (c : tie.After-cycle_sends) → c.cycle_sends.result * c.args.span ≤ cycle_most * most_span
+sends-few c = mul-le-mul c.cycle_sends.ensures.1 c.requires.1
 
-rows_few : (c : tie.After-rows-of) → c.before.before.before.before.before.before.before.before.before.args.span * c.rows_of_lem.result ≤ most_span * most_rows
-rows_few c = mul-le-mul c.before.before.before.before.before.before.before.before.before.requires.1 c.rows_of_lem.ensures.2
+rows_few : (c : tie.After-rows_of) → c.args.span * c.rows_of.result ≤ most_span * most_rows
+rows_few c = mul-le-mul c.requires.1 c.rows_of.ensures.2
 
-returns : tie.Need-returns
+returns : tie.Need-returns-then-list-cycle_sends
 returns c =
-    let counted = c.before in
-    let start = counted.before.before.before.before in
-    room-refused start.requires.0 _ _ counted.cycle-sends.ensures.0 (omega arith)
+    room-refused c.requires.0 _ _ c.cycle_sends.ensures.0 (omega arith)
 
 fill-requires : tie.Need-fill-requires
 fill-requires c κs =
-    let start = c.before.before.before.before.before.before in
-    (start.requires.0, table_none start.args.p.now start.args.w.now start.requires.0.formed)
+    (c.requires.0, table_none c.args.p.now c.args.w.now c.requires.0.formed)
 
-write-rows-requires : tie.Need-write-rows-requires
-write-rows-requires c κs =
-    let rowed = c.before in
-    let filled = rowed.before.before in
-    let counted = filled.before.before.before in
-    let start = counted.before.before.before.before in (
-      (table-numbered start.requires.0 filled.fill.ensures, omega (arith, rows_few rowed)),
-      rows_fit start.requires.0 _ start.args.list.now counted.cycle-sends.ensures.0 filled.fill.ensures (omega arith) rowed.rows_of_lem.ensures.0,
-    )
+write-rows-requires : tie.Need-write_rows-requires
+write-rows-requires c κs = (
+  (table-numbered c.requires.0 c.fill.ensures, omega (arith, rows_few c.before)),
+  rows_fit c.requires.0 _ c.args.list.now c.cycle_sends.ensures.0 c.fill.ensures (omega arith) c.rows_of.ensures.0,
+)
 
-returns-2 : tie.Need-returns-2
+returns-2 : tie.Need-returns
 returns-2 c =
-    let written = c.before.before in
-    let rowed = written.before.before in
-    let filled = rowed.before.before in
-    let counted = filled.before.before.before in
-    let start = counted.before.before.before.before in
-    rows_written start.requires.0 _ start.args.list.now counted.cycle-sends.ensures.0 filled.fill.ensures (omega arith) rowed.rows_of_lem.ensures.0 written.write-rows.ensures
+    rows_written c.requires.0 _ c.args.list.now c.cycle_sends.ensures.0 c.fill.ensures (omega arith) c.rows_of.ensures.0 c.write_rows.ensures
 
-pub due-accepted-spec : {M : Type 1} → statement M
-due-accepted-spec =
+pub due_accepted_spec : {M : Type 1} → statement M
+due_accepted_spec =
     tie.close
     (tie.spec
     (λ c κs. search rules)

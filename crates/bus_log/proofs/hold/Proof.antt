@@ -13,50 +13,37 @@ use borrow.Author.Rules.{rules}
 use Rattle.bus_log.proofs.hold.Statement.{statement}
 use Rattle.bus_log.proofs.hold.Tie as tie
 
-returns : tie.Need-returns
+returns : tie.Need-returns-in_default
 returns c =
-    let told = c.before in
-    let tested = told.before.before.before in
-    file-refused _ _ _ _ tested.accept.ensures told.enum_told.given.1 c.refusal-of.ensures
+    file-refused _ _ _ _ c.accept-got.ensures c.in_default.is c.refusal_of.ensures
 
-returns-2 : tie.Need-returns-2
+returns-2 : tie.Need-returns-then-log-is_outside
 returns-2 c =
-    let outside = c.before in
-    let got = outside.before.before in
-    let tested = got.before.before.before in
-    log-refused _ _ _ _ (tested.accept.ensures.opens _ got.got.given.1) (rw (← outside.is-outside.ensures) c.if1.true)
+    log-refused _ _ _ _ (c.accept-got.ensures.opens _ c.in-Problem.is) (rw (← c.is_outside.ensures) c.if-log-is_outside.true)
 
 -- behind the test log and span are right ones
-right : (c : tie.Else1)
-    → let start = c.before.before.before.before.before.before.before.before.before.before.before in
-    not (eqb (length start.args.log.now % 2) 0) || wrong_span start.args.span ≡ false
-right c = rw (← c.before.is-outside.ensures) c.if1.false
+right : (c : tie.Else-log-is_outside)
+    →
+    not (eqb (length c.args.log.now % 2) 0) || wrong_span c.args.span ≡ false
+right c = rw (← c.is_outside.ensures) c.if-log-is_outside.false
 
-array-share-prefix-buffer : tie.Need-array-share-prefix-buffer
-array-share-prefix-buffer c = let got = c.before.before.before in (got.before.before.before.accept.ensures.opens _ got.got.given.1).within
+array-share-prefix-buffer : tie.Need-slice_bounds-buffer-end
+array-share-prefix-buffer c = (c.accept-got.ensures.opens _ c.in-Problem.is).within
 
-slice-aggregate-hold-accepted : tie.Need-slice-aggregate-hold-accepted
-slice-aggregate-hold-accepted c = let got = c.before.before.before.before in sym (admitted-length (got.before.before.before.accept.ensures.opens _ got.got.given.1))
+slice-aggregate-hold-accepted : tie.Need-slice_bounds-hold_accepted-end
+slice-aggregate-hold-accepted c = sym (admitted-length (c.accept-got.ensures.opens _ c.in-Problem.is))
 
-hold-accepted-requires : tie.Need-hold-accepted-requires
+hold-accepted-requires : tie.Need-hold_accepted-requires
 hold-accepted-requires c κs =
-    let passed = c.before.before in
-    let got = passed.before.before.before in
-    let tested = got.before.before.before in
-    let start = tested.before.before.before.before.before in
-    let fits = log-right (length start.args.log.now) start.args.span (right passed) in
-    ((tested.accept.ensures.opens _ got.got.given.1).accepted, fits.0, omega (arith, fits.1), omega (arith, fits.1))
+    let fits = log-right (length c.args.log.now) c.args.span (right c.before.before) in
+    ((c.accept-got.ensures.opens _ c.in-Problem.is).accepted, fits.0, omega (arith, fits.1), omega (arith, fits.1))
 
-returns-3 : tie.Need-returns-3
+returns-3 : tie.Need-returns
 returns-3 c =
-    let widened = c.before in
-    let passed = widened.before.before in
-    let got = passed.before.before.before in
-    let tested = got.before.before.before in
-    log-accepted _ _ _ _ (tested.accept.ensures.opens _ got.got.given.1) (right passed) widened.wide.ensures.0 c.hold-accepted.ensures
+    log-accepted _ _ _ _ (c.accept-got.ensures.opens _ c.in-Problem.is) (right c.before.before.before) c.wide.ensures.0 c.hold_accepted.ensures
 
-pub hold-spec : {M : Type 1} → statement M
-hold-spec =
+pub hold_spec : {M : Type 1} → statement M
+hold_spec =
     tie.close
     (tie.spec
     (λ c. search rules)

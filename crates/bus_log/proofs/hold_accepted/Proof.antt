@@ -5,7 +5,6 @@ use mathlib.Core.Path.{◌≡◌, refl, sym, ap, ap₂, subst}
 use mathlib.Core.List.{List}
 use native.Mathlib.Nat.{mul-le-mul}
 use native.Mathlib.Omega.{arith}
-use lib.ListN.{length}
 use Rattle.rules.specs.Problem.{most_rows}
 use Rattle.cells.proofs.Marks.{table_none}
 use Rattle.bus_log.specs.declared.Opening.TheVariants.{Whole}
@@ -24,67 +23,46 @@ use borrow.Author.Rules.{rules}
 use Rattle.bus_log.proofs.hold_accepted.Statement.{statement}
 use Rattle.bus_log.proofs.hold_accepted.Tie as tie
 
--- from where the first matrix cycle is known to be right back to its answer, to the table, and to the call's start
-abbrev held : tie.After-known-told2 → tie.After-hold-rows
-held c = c.before.before.before
-
-abbrev filled : tie.After-hold-rows → tie.After-fill
-filled c = c.before.before
-
-abbrev begun : tie.After-fill → tie.Start
-begun c = c.before.before.before.before.before
-
--- and to there from where the reach of the comparing is known
-abbrev opened : tie.After-smaller → tie.After-known-told2
-opened c = c.before.before.before
-
 -- the words that are due
 abbrev due : tie.After-fill → List ℕ
-due c = let start = begun c in all start.pre.0 c.fill.ensures start.args.span start.pre.2 start.pre.3
+due c = all c.requires.0 c.fill.ensures c.args.span c.requires.2 c.requires.3
 
 -- how many words the first matrix cycle has, and that it is right
-abbrev first : tie.After-known-told2 → ℕ
-first c = c.before.first2.given.0.0
+abbrev first : tie.In-Whole → ℕ
+first c = c.in-Whole.n
 
-whole : (c : tie.After-known-told2) → let made = filled (held c) in let start = begun made in
-    Begins (one start.pre.0 made.fill.ensures start.args.span start.pre.2 start.pre.3) start.args.log.now (Whole (first c))
-whole c = subst (Begins _ _) c.before.first2.given.1 (held c).hold-rows.ensures
+whole : (c : tie.In-Whole) →
+    Begins (one c.requires.0 c.fill.ensures c.args.span c.requires.2 c.requires.3) c.args.log.now (Whole (first c))
+whole c = subst (Begins _ _) c.in-Whole.is c.hold_rows-first.ensures
 
 -- how far the log can be compared, and what the comparing says
-abbrev full : tie.After-smaller → ℕ
-full c = first (opened c) * (begun (filled (held (opened c)))).args.span
+abbrev full : tie.After-smaller-reach → ℕ
+full c = first c.before.before.before * c.args.span
 
-abbrev later : tie.After-smaller → ℕ
-later c = c.before.before.rows_of_lem.result * c.before.cycle-of.result
+abbrev later : tie.After-smaller-reach → ℕ
+later c = c.rows_of.result * c.cycle_of.result
 
-reach : (c : tie.After-smaller) → Lengths (begun (filled (held (opened c)))).args.log.now (first (opened c)) c.smaller.result
+reach : (c : tie.After-smaller-reach) → Lengths c.args.log.now (first c.before.before.before) c.smaller-reach.result
 reach c =
-    let made = filled (held (opened c)) in
-    let start = begun made in
-    lengths start.pre.0 made.fill.ensures start.args.span start.pre.2 start.pre.3 (whole (opened c)) start.pre.1 refl
-    (ap₂ ◌*◌ c.before.before.rows_of_lem.ensures.0 c.before.cycle-of.ensures.0) c.smaller.ensures
+    lengths c.requires.0 c.fill.ensures c.args.span c.requires.2 c.requires.3 (whole c.before.before.before) c.requires.1 refl
+    (ap₂ ◌*◌ c.rows_of.ensures.0 c.cycle_of.ensures.0) c.smaller-reach.ensures
 
-says : (c : tie.After-agreeing) → let reached = c.before.before.before in let made = filled (held (opened reached)) in
-    Outcome (due made) (begun made).args.log.now (first (opened reached)) (full reached) (later reached) c.agreeing.result
+says : (c : tie.After-agreeing) →
+    Outcome (due c.before.before.before.before.before.before.before.before) c.args.log.now (first c.before.before.before.before.before) (full c.before.before) (later c.before.before) c.agreeing.result
 says c =
-    let reached = c.before.before.before in
-    let made = filled (held (opened reached)) in
-    let start = begun made in
-    outcome start.pre.0 made.fill.ensures start.args.span start.pre.2 start.pre.3 (whole (opened reached)) start.pre.1 refl
-    (ap₂ ◌*◌ reached.before.before.rows_of_lem.ensures.0 reached.before.cycle-of.ensures.0) reached.smaller.ensures c.agreeing.ensures
+    outcome c.requires.0 c.fill.ensures c.args.span c.requires.2 c.requires.3 (whole c.before.before.before.before.before) c.requires.1 refl
+    (ap₂ ◌*◌ c.rows_of.ensures.0 c.cycle_of.ensures.0) c.smaller-reach.ensures c.agreeing.ensures
 
 -- what a cycle's words and its length come to is small
-first_small : (c : tie.After-known-told2) → first c ≤ most_rows * row_most
+first_small : (c : tie.In-Whole) → first c ≤ most_rows * row_most
 first_small c =
-    let made = filled (held c) in
-    let start = begun made in
-    first-few start.pre.0 made.fill.ensures start.args.span start.pre.2 start.pre.3 (whole c)
+    first-few c.requires.0 c.fill.ensures c.args.span c.requires.2 c.requires.3 (whole c)
 
-full-small : (c : tie.After-known-told2) → first c * (begun (filled (held c))).args.span ≤ most_rows * row_most * most_span
-full-small c = mul-le-mul {n₂ = most_rows * row_most} {m₂ = most_span} (first_small c) (begun (filled (held c))).requires.3
+full-small : (c : tie.In-Whole) → first c * c.args.span ≤ most_rows * row_most * most_span
+full-small c = mul-le-mul {n₂ = most_rows * row_most} {m₂ = most_span} (first_small c) c.requires.3
 
-later-small : (c : tie.After-cycle-of) → c.before.rows_of_lem.result * c.cycle-of.result ≤ matrix_most
-later-small c = mul-le-mul {n₂ = most_rows} {m₂ = 65535} c.before.rows_of_lem.ensures.2 c.cycle-of.ensures.2
+later-small : (c : tie.After-cycle_of) → c.rows_of.result * c.cycle_of.result ≤ matrix_most
+later-small c = mul-le-mul {n₂ = most_rows} {m₂ = 65535} c.rows_of.ensures.2 c.cycle_of.ensures.2
 
 -- the answer where the log and what is due are told
 answered : {p w x log : List ℕ} {span : ℕ} {r : Held} → paper_held r ≡ done → IsDue p w span x → Against x log r → HoldingAccepted p w span log r
@@ -92,107 +70,85 @@ answered e d h = record { paper-is = e; due = _; due-is = λ _. d; held = λ _. 
 
 fill-requires : tie.Need-fill-requires
 fill-requires c κs =
-    let start = c.before.before.before.before in
-    (start.requires.0, table_none start.args.p.now start.args.w.now start.requires.0.formed)
+    (c.requires.0, table_none c.args.p.now c.args.w.now c.requires.0.formed)
 
-hold-rows-requires : tie.Need-hold-rows-requires
+hold-rows-requires : tie.Need-hold_rows-first-requires
 hold-rows-requires c κs =
-    let table = c.before in
-    let start = begun table in
-    (table-numbered start.pre.0 table.fill.ensures, start.pre.1)
+    (table-numbered c.requires.0 c.fill.ensures, c.requires.1)
 
-returns : tie.Need-returns
+returns : tie.Need-returns-in-Differs
 returns c =
-    let found = c.before in
-    let rows = found.before.before in
-    let made = filled rows in
-    let start = begun made in
-    answered refl (rows-due start.pre.0 made.fill.ensures start.args.span)
-    (differs _ (first-differs start.pre.0 made.fill.ensures start.args.span start.pre.2 start.pre.3 (subst (Begins _ _) found.first.given.1 rows.hold-rows.ensures)))
+    answered refl (rows-due c.requires.0 c.fill.ensures c.args.span)
+    (differs _ (first-differs c.requires.0 c.fill.ensures c.args.span c.requires.2 c.requires.3 (subst (Begins _ _) c.in-Differs.is c.hold_rows-first.ensures)))
 
-mul-all : tie.Need-overflow-mul-all
+mul-all : tie.Need-overflow_mul-all
 mul-all c = omega (arith, full-small c)
 
-mul-later : tie.Need-overflow-mul-later
+mul-later : tie.Need-overflow_mul-later
 mul-later c = omega (arith, later-small c)
 
-sub-agreeing : tie.Need-overflow-sub-agreeing
+sub-agreeing : tie.Need-slice_bounds-agreeing-count
 sub-agreeing c = let r = reach c in omega arith
 
-slice-aggregate-agreeing : tie.Need-slice-aggregate-agreeing
-slice-aggregate-agreeing c = sym (reach c.before).before
+slice-aggregate-agreeing : tie.Need-slice_bounds-agreeing-length
+slice-aggregate-agreeing c = sym (reach c).before
 
-sub-agreeing-2 : tie.Need-overflow-sub-agreeing-2
-sub-agreeing-2 c = let r = reach c.before in omega arith
+sub-agreeing-2 : tie.Need-slice_bounds-agreeing-count-2
+sub-agreeing-2 c = let r = reach c in omega arith
 
-part-agreeing-start : tie.Need-slice-bounds-agreeing-start
-part-agreeing-start c = let r = reach c.before in omega arith
+part-agreeing-start : tie.Need-slice_bounds-agreeing-start
+part-agreeing-start c = let r = reach c in omega arith
 
-part-agreeing-end : tie.Need-slice-bounds-agreeing-end
-part-agreeing-end c = let r = reach c.before in omega arith
+part-agreeing-end : tie.Need-slice_bounds-agreeing-end
+part-agreeing-end c = let r = reach c in omega arith
 
-mul-agreeing : tie.Need-overflow-mul-agreeing
-mul-agreeing c = omega (arith, first_small (opened c.before))
+mul-agreeing : tie.Need-offset_bounds-log-n
+mul-agreeing c = omega (arith, first_small c.before.before.before)
 
 agreeing-requires : tie.Need-agreeing-requires
 agreeing-requires c κs =
-    let reached = c.before.before in
-    let r = reach reached in
-    (rw r.before r.even, rw r.behind r.even, omega (arith, later-small reached.before))
+    let r = reach c.before in
+    (rw r.before r.even, rw r.behind r.even, omega (arith, later-small c.before.before))
 
-returns-2 : tie.Need-returns-2
+returns-2 : tie.Need-returns-then-same-all
 returns-2 c =
-    let widened = c.before in
-    let compare = widened.before.before.before in
-    let made = filled (held (opened compare.before.before.before)) in
-    let start = begun made in
-    answered refl (rows-due start.pre.0 made.fill.ensures start.args.span)
-    (differs _ ((says compare).differs (omega arith) refl (ap (◌+ later compare.before.before.before) widened.wide.ensures.0) refl))
+    answered refl (rows-due c.requires.0 c.fill.ensures c.args.span)
+    (differs _ ((says c.before.before.before.before).differs (omega arith) refl (ap (◌+ later c.before.before.before.before.before.before) c.wide.ensures.0) refl))
 
-returns-3 : tie.Need-returns-3
+returns-3 : tie.Need-returns-then-all-log
 returns-3 c =
-    let compare = c.before.before in
-    let made = filled (held (opened compare.before.before.before)) in
-    let start = begun made in
-    answered refl (rows-due start.pre.0 made.fill.ensures start.args.span) (differs _ ((says compare).goes_on (omega arith) (omega arith) refl refl refl))
+    answered refl (rows-due c.requires.0 c.fill.ensures c.args.span) (differs _ ((says c.before.before).goes_on (omega arith) (omega arith) refl refl refl))
 
-returns-4 : tie.Need-returns-4
+returns-4 : tie.Need-returns
 returns-4 c =
-    let compare = c.before.before in
-    let made = filled (held (opened compare.before.before.before)) in
-    let start = begun made in
-    answered refl (rows-due start.pre.0 made.fill.ensures start.args.span) (clean ((says compare).clean (omega arith) (omega arith)))
+    answered refl (rows-due c.requires.0 c.fill.ensures c.args.span) (clean ((says c.before.before).clean (omega arith) (omega arith)))
 
-shared-slice-read-wide : tie.Need-shared-slice-read-wide
+shared-slice-read-wide : tie.Need-bounds-log-same
 shared-slice-read-wide c =
-    let compare = c.before.before in
-    let r = reach compare.before.before.before in
-    omega (arith, compare.agreeing.ensures.agreed.inside, r.before)
+    let r = reach c.before.before.before.before in
+    omega (arith, c.agreeing.ensures.agreed.inside, r.before)
 
-shared-slice-read-t41 : tie.Need-shared-slice-read-t41
+shared-slice-read-t41 : tie.Need-bounds-log-same-then-same-all
 shared-slice-read-t41 c =
-    let compare = c.before.before.before.before in
-    let r = reach compare.before.before.before in
-    omega (arith, compare.agreeing.ensures.agreed.inside, r.before)
+    let r = reach c.before.before.before.before.before.before in
+    omega (arith, c.agreeing.ensures.agreed.inside, r.before)
 
-add-t35 : tie.Need-overflow-add-t35
+add-t35 : tie.Need-overflow_add-result
 add-t35 c =
-    let compare = c.before.before.before in
-    omega (arith, c.wide.ensures.1, later-small compare.before.before.before.before)
+    omega (arith, c.wide.ensures.1, later-small c.before.before.before.before.before.before)
 
-cast-t29 : tie.Need-overflow-cast-t29
-cast-t29 c = omega (arith, full-small (opened c.before.before.before.before))
+cast-t29 : tie.Need-overflow_cast-result
+cast-t29 c = omega (arith, full-small c.before.before.before.before.before.before)
 
-cast-t44 : tie.Need-overflow-cast-t44
-cast-t44 c = omega (arith, full-small (opened c.before.before.before.before.before))
+cast-t44 : tie.Need-overflow_cast-result-then-all-log
+cast-t44 c = omega (arith, full-small c.before.before.before.before.before.before.before)
 
-cast-t36 : tie.Need-overflow-cast-t36
+cast-t36 : tie.Need-overflow_cast-result-then-same-all
 cast-t36 c =
-    let compare = c.before.before.before in
-    omega (arith, (says compare).ranges (omega arith), c.wide.ensures.0)
+    omega (arith, (says c.before.before.before).fits (omega arith), c.wide.ensures.0)
 
-pub hold-accepted-spec : {M : Type 1} → statement M
-hold-accepted-spec =
+pub hold_accepted_spec : {M : Type 1} → statement M
+hold_accepted_spec =
     tie.close
     (tie.spec
     fill-requires

@@ -14,8 +14,8 @@ returns c =
     let pair : List ℕ = a.time ∷ a.identifier ∷ [] in
     sets-eq pair a.list.now 0 (omega arith)
 
-pub put-pair-spec : {M : Type 1} → statement M
-put-pair-spec =
+pub put_pair_spec : {M : Type 1} → statement M
+put_pair_spec =
     tie.close
     (tie.spec
     (λ c. search rules)

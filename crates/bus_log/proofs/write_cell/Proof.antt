@@ -6,32 +6,27 @@ use borrow.Author.Rules.{rules}
 use Rattle.bus_log.proofs.write_cell.Statement.{statement}
 use Rattle.bus_log.proofs.write_cell.Tie as tie
 
-returns : tie.Need-returns
-returns c = let a = c.before.before.before.args in cell-none a.p.now a.number a.time a.list.now c.if1.true
+returns : tie.Need-returns-then-number-eq0
+returns c = let a = c.args in cell-none a.p.now a.number a.time a.list.now c.if-number-eq0.true
 
-identifier-of-requires : tie.Need-identifier-of-requires
-identifier-of-requires c κs = member c.before.before.before.before.requires.0.0 (omega arith)
+identifier-of-requires : tie.Need-identifier_of-requires
+identifier-of-requires c κs = member c.requires.0.0 (omega arith)
 
-put-pair-requires : tie.Need-put-pair-requires
+put-pair-requires : tie.Need-put_pair-requires
 put-pair-requires c κs =
-    let some = c.before.before in
-    let start = some.before.before.before in
-    (cell_room start.args.p.now start.args.number start.args.time start.args.list.now some.if1.false start.requires.1, omega arith, omega arith)
+    (cell_room c.args.p.now c.args.number c.args.time c.args.list.now c.if-number-eq0.false c.requires.1, omega arith, omega arith)
 
-returns-2 : tie.Need-returns-2
+returns-2 : tie.Need-returns
 returns-2 c =
-    let put = c.before.before in
-    let some = put.before.before.before in
-    let start = some.before.before.before in
-    cell-some start.args.p.now start.args.number start.args.time some.if1.false put.before.identifier-of.ensures.0 put.put-pair.ensures
+    cell-some c.args.p.now c.args.number c.args.time c.if-number-eq0.false c.identifier_of.ensures.0 c.put_pair.ensures
 
-pub write-cell-spec : {M : Type 1} → statement M
-write-cell-spec =
+pub write_cell_spec : {M : Type 1} → statement M
+write_cell_spec =
     tie.close
     (tie.spec
     returns
     (λ c. search rules)
     identifier-of-requires
     put-pair-requires
-    (λ c. c.before.before.put-pair.auto.0)
+    (λ c. c.put_pair.auto.list)
     returns-2)

@@ -10,50 +10,41 @@ use borrow.Author.Rules.{rules}
 use Rattle.bus_log.proofs.write_rows.Statement.{statement}
 use Rattle.bus_log.proofs.write_rows.Tie as tie
 
-abbrev invariant-loop : tie.invariant-loop
+abbrev invariant-loop : tie.invariant-loop-i
 invariant-loop p table count list₀ at₀ i₀ list at i = (i ≤ count) × Begins (run i (words_of_row p table)) list₀ list at
 
-abbrev decreases-loop : tie.decreases-loop
+abbrev decreases-loop : tie.decreases-loop-i
 decreases-loop p table count list₀ at₀ i₀ list at i = count - i
 
--- from a turn of the loop back to the call's start
-abbrev begun : tie.At-loop invariant-loop decreases-loop → tie.Start invariant-loop decreases-loop
-begun c = c.before.before.before
-
-loop-holds : tie.Need-loop-init invariant-loop decreases-loop
+loop-holds : tie.Need-loop-i-init invariant-loop decreases-loop
 unfolding run
 loop-holds c = (omega arith, begins-none _)
 
-write-row-requires : tie.Need-write-row-requires invariant-loop decreases-loop
+write-row-requires : tie.Need-write_row-at-requires invariant-loop decreases-loop
 write-row-requires c κs =
-    let looped = c.before.before in
-    let start = begun looped in
-    let a = start.args in
+    let a = c.args in
     let g : ℕ → List ℕ = words_of_row a.p.now a.table.now in
-    ((start.pre.0.0, omega arith), room-more looped.loop.invariant.1 _ (run-next g looped.loop.i) (run_room g a.count (looped.loop.i + 1) (omega arith) start.pre.1))
+    ((c.requires.0.0, omega arith), room-more c.loop-i.invariant.1 _ (run-next g c.loop-i.i) (run_room g a.count (c.loop-i.i + 1) (omega arith) c.requires.1))
 
-loop-again : tie.Need-loop-preserved invariant-loop decreases-loop
+loop-again : tie.Need-loop-i-preserved invariant-loop decreases-loop
 loop-again c =
-    let looped = c.before.before.before.before.before in
-    let start = begun looped in
-    let a = start.args in
+    let a = c.args in
     let g : ℕ → List ℕ = words_of_row a.p.now a.table.now in
-    (omega arith, begins-more looped.loop.invariant.1 _ (run-next g looped.loop.i) (run_room g a.count (looped.loop.i + 1) (omega arith) start.pre.1) c.before.before.write-row.ensures)
+    (omega arith, begins-more c.loop-i.invariant.1 _ (run-next g c.loop-i.i) (run_room g a.count (c.loop-i.i + 1) (omega arith) c.requires.1) c.write_row-at.ensures)
 
-add_at : tie.Need-overflow-add-at invariant-loop decreases-loop
+add_at : tie.Need-overflow_add-at invariant-loop decreases-loop
 add_at c = omega (arith, (loop-again c).1.inside)
 
-same_length : tie.Need-same-length invariant-loop decreases-loop
-same_length c = c.before.loop.invariant.1.long
+same_length : tie.Need-shape_of-list invariant-loop decreases-loop
+same_length c = c.loop-i.invariant.1.long
 
 returns : tie.Need-returns invariant-loop decreases-loop
 returns c =
-    let looped = c.before in
-    let a = (begun looped).args in
-    run-all (words_of_row a.p.now a.table.now) (omega arith) looped.loop.invariant.1
+    let a = c.args in
+    run-all (words_of_row a.p.now a.table.now) (omega arith) c.loop-i.invariant.1
 
-pub write-rows-spec : {M : Type 1} → statement M
-write-rows-spec =
+pub write_rows_spec : {M : Type 1} → statement M
+write_rows_spec =
     tie.close
     (tie.spec
     invariant-loop
