@@ -1,4 +1,6 @@
 // The desk's sentences: why a call refuses. Each says where it stands in what a person wrote, what is there, and what would be right, so that it can be mended from the answer alone.
+#![tactic(auto)]
+
 mod alone;
 mod events;
 mod placements;
