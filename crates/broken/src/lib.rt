@@ -1,4 +1,6 @@
 // What is wrong with a problem, behind its name: where that stands in what a person wrote, what is there, and what would be right.
+#![tactic(auto)]
+
 pub mod fields;
 mod header;
 mod records;

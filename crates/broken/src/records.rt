@@ -15,7 +15,7 @@ const MOST: u32 = 65535;
 // ---- which rule
 
 // The rules of columns and messages, in the order in which they are tested.
-#[derive(Drop)]
+#[derive(Clone, Copy)]
 enum Rule {
     Start,
     Width,
@@ -125,7 +125,7 @@ fn word_of(rule: Rule) -> usize
 }
 
 // How a problem was given: as a file of some version, or as a text in which a column has so many words.
-#[derive(Drop)]
+#[derive(Clone, Copy)]
 enum Given {
     File(Layout),
     Text(usize),

@@ -12,6 +12,7 @@ use problem::Layout;
 use problem::layout::version_of;
 use problem::recast::column_words;
 use response::Responded;
+use std::rt::{Env, Files};
 use versions::Moved;
 use views::matrix::Form;
 use views::{matrix, tables};
@@ -20,7 +21,7 @@ use views::{matrix, tables};
 const ALL_NODES: u32 = rules::words::NODES;
 
 // What the first argument asks for.
-#[derive(Drop)]
+#[derive(Clone, Copy)]
 enum Command {
     Show,
     Check,
@@ -86,22 +87,22 @@ fn present(view: View, layout: Layout, p: &[u32], w: &[u32])
 }
 
 // Reads a problem file and shows it, or says why it is refused.
-fn show(view: View, file: &[u8], w: &[u32]) {
+fn show(rt: &impl Env, view: View, file: &[u8], w: &[u32]) {
     let layout = input::layout(file);
     let mut words = [basics::FILL; rules::words::MOST_WORDS];
-    let n = input::decoded(file, &mut words);
+    let n = input::decoded(rt, file, &mut words);
     if 0 < n {
         present(view, layout, &words[..n], w);
     }
 }
 
 // Shows a proposal that is accepted and where the bus time then goes, or says why it is refused.
-fn show_proposal(view: View, file: &[u8], text: &[u8], w: &[u32], plan: &[u8]) {
+fn show_proposal(rt: &impl Env, view: View, file: &[u8], text: &[u8], w: &[u32], plan: &[u8]) {
     let got = judge::judge(file, w);
     match got {
-        Judged::Refused(q) => reasons::of_file(q, file, text, w, plan, Subject::Given),
+        Judged::Refused(q) => reasons::of_file(rt, q, file, text, w, plan, Subject::Given),
         Judged::Accepted(t) => {
-            show(view, file, w);
+            show(rt, view, file, w);
             tables::bus_time(t);
         }
     }
@@ -109,6 +110,7 @@ fn show_proposal(view: View, file: &[u8], text: &[u8], w: &[u32], plan: &[u8]) {
 
 // Shows what the planner wrote as a word list, which can be checked as it stands, or why it refuses a problem and placements to keep.
 fn show_planned(
+    rt: &impl Env,
     got: Planned,
     proposal: &[u32],
     file: &[u8],
@@ -118,26 +120,26 @@ fn show_planned(
     subject: Subject,
 ) {
     match got {
-        Planned::Refused(q) => reasons::of_file(q, file, text, kept, list, subject),
+        Planned::Refused(q) => reasons::of_file(rt, q, file, text, kept, list, subject),
         Planned::Proposal(n) => {
             let n = input::within(n, proposal);
-            show(View::Proposal, file, &proposal[..n]);
+            show(rt, View::Proposal, file, &proposal[..n]);
         }
     }
 }
 
 // Shows the least acceptable proposal.
-fn plan(file: &[u8], text: &[u8]) {
+fn plan(rt: &impl Env, file: &[u8], text: &[u8]) {
     let mut proposal = [0u32; planner::PLAN_WORDS];
     let got = planner::plan(file, &mut proposal);
-    show_planned(got, &proposal, file, text, &[], &[], Subject::Given);
+    show_planned(rt, got, &proposal, file, text, &[], &[], Subject::Given);
 }
 
 // Shows the least acceptable proposal that keeps what is to be kept.
-fn replan(file: &[u8], text: &[u8], kept: &[u32], list: &[u8]) {
+fn replan(rt: &impl Env, file: &[u8], text: &[u8], kept: &[u32], list: &[u8]) {
     let mut proposal = [0u32; rules::words::MOST_PROPOSAL];
     let got = planner::replan(file, kept, &mut proposal);
-    show_planned(got, &proposal, file, text, kept, list, Subject::Kept);
+    show_planned(rt, got, &proposal, file, text, kept, list, Subject::Kept);
 }
 
 // Tells the script whether all deadlines are met.
@@ -150,11 +152,11 @@ fn say_met(misses: u32) {
 }
 
 // Shows the response times of events.
-fn show_times(events: &[u32], text: &[u8]) {
+fn show_times(rt: &impl Env, events: &[u32], text: &[u8]) {
     let mut times = [0u32; response::MOST_EVENTS];
     let got = response::responses(events, &mut times);
     match got {
-        Responded::Refused(q) => reasons::of_events(q, events, text),
+        Responded::Refused(q) => reasons::of_events(rt, q, events, text),
         Responded::Done(misses) => {
             say_met(misses);
             tables::events(events);
@@ -167,19 +169,19 @@ fn show_times(events: &[u32], text: &[u8]) {
 // ---- commands
 
 // A command on a problem.
-fn on_problem(command: Command) {
+fn on_problem<R: Env + Files + Input>(rt: &R, command: Command) {
     let mut text = io::large_buffer();
     let mut bytes = io::large_buffer();
-    let got = input::problem(Subject::Given, &mut text, &mut bytes);
+    let got = input::problem(rt, Subject::Given, &mut text, &mut bytes);
     if !got.is_good {
         return;
     }
     let n = got.count;
     let m = got.text;
     match command {
-        Command::Plan => plan(&bytes[..n], &text[..m]),
-        Command::Words => show(View::Words, &bytes[..n], &[]),
-        _ => show(View::Problem, &bytes[..n], &[]),
+        Command::Plan => plan(rt, &bytes[..n], &text[..m]),
+        Command::Words => show(rt, View::Words, &bytes[..n], &[]),
+        _ => show(rt, View::Problem, &bytes[..n], &[]),
     }
 }
 
@@ -192,30 +194,38 @@ fn use_of(command: Command) -> Use {
 }
 
 // Does what a command asks for with a proposal; the number is the node of the lists, or the span of a log.
-fn with_proposal(command: Command, file: &[u8], text: &[u8], w: &[u32], plan: &[u8], number: u32) {
-    if mark::is_other(file, plan, Subject::Given) {
+fn with_proposal<R: Env + Files + Input>(
+    rt: &R,
+    command: Command,
+    file: &[u8],
+    text: &[u8],
+    w: &[u32],
+    plan: &[u8],
+    number: u32,
+) {
+    if mark::is_other(rt, file, plan, Subject::Given) {
         return;
     }
     match command {
-        Command::Check => show_proposal(View::Verdict, file, text, w, plan),
-        Command::Lists => listing::show(file, text, w, plan, basics::wide(number)),
-        Command::Hold => holding::hold_file(file, text, w, plan, number),
-        Command::Due => holding::show_due(file, text, w, plan, number),
-        _ => show_proposal(View::Matrix, file, text, w, plan),
+        Command::Check => show_proposal(rt, View::Verdict, file, text, w, plan),
+        Command::Lists => listing::show(rt, file, text, w, plan, basics::wide(number)),
+        Command::Hold => holding::hold_file(rt, file, text, w, plan, number),
+        Command::Due => holding::show_due(rt, file, text, w, plan, number),
+        _ => show_proposal(rt, View::Matrix, file, text, w, plan),
     }
 }
 
 // A command on a problem and a proposal, or placements to keep, and a number.
-fn on_proposal(command: Command, number: u32) {
+fn on_proposal<R: Env + Files + Input>(rt: &R, command: Command, number: u32) {
     let mut text = io::large_buffer();
     let mut bytes = io::large_buffer();
-    let got = input::problem(Subject::Given, &mut text, &mut bytes);
+    let got = input::problem(rt, Subject::Given, &mut text, &mut bytes);
     if !got.is_good {
         return;
     }
     let mut plan = io::large_buffer();
     let mut words = [0u32; input::LIST_WORDS];
-    let told = input::words(3, &mut plan, &mut words, use_of(command));
+    let told = input::words(rt, 3, &mut plan, &mut words, use_of(command));
     if !told.is_good {
         return;
     }
@@ -224,8 +234,9 @@ fn on_proposal(command: Command, number: u32) {
     let k = told.count;
     let l = told.text;
     match command {
-        Command::Replan => replan(&bytes[..n], &text[..m], &words[..k], &plan[..l]),
+        Command::Replan => replan(rt, &bytes[..n], &text[..m], &words[..k], &plan[..l]),
         _ => with_proposal(
+            rt,
             command,
             &bytes[..n],
             &text[..m],
@@ -237,59 +248,60 @@ fn on_proposal(command: Command, number: u32) {
 }
 
 // The trigger lists of all nodes, or of the node that an argument names.
-fn on_lists(arguments: usize) {
+fn on_lists<R: Env + Files + Input>(rt: &R, arguments: usize) {
     if arguments == 4 {
-        on_proposal(Command::Lists, ALL_NODES);
+        on_proposal(rt, Command::Lists, ALL_NODES);
         return;
     }
-    let node = input::number(4);
+    let node = input::number(rt, 4);
     if 15 < node {
-        origin::named(b"ttplan: NODE is a number from 0 to 15, and not ", 4);
+        origin::named(rt, b"ttplan: NODE is a number from 0 to 15, and not ", 4);
         paper::say(b"\n");
         return;
     }
-    on_proposal(Command::Lists, node as u32);
+    on_proposal(rt, Command::Lists, node as u32);
 }
 
 // A log held against a plan, or the log that is due, over the span that argument i names.
-fn on_span(command: Command, i: usize) {
-    let span = input::number(i);
+fn on_span<R: Env + Files + Input>(rt: &R, command: Command, i: usize) {
+    let span = input::number(rt, i);
     if wordlist::NO_NUMBER <= span {
         origin::named(
+            rt,
             b"ttplan: SPAN is a number of matrix cycles from 1 to 100, and not ",
             i,
         );
         paper::say(b"\n");
         return;
     }
-    on_proposal(command, span as u32);
+    on_proposal(rt, command, span as u32);
 }
 
 // The response times of events.
-fn on_events() {
+fn on_events<R: Env + Files + Input>(rt: &R) {
     let mut text = io::large_buffer();
     let mut words = [0u32; input::LIST_WORDS];
-    let got = input::words(2, &mut text, &mut words, Use::List);
+    let got = input::words(rt, 2, &mut text, &mut words, Use::List);
     if !got.is_good {
         return;
     }
     let n = got.count;
     let m = got.text;
-    show_times(&words[..n], &text[..m]);
+    show_times(rt, &words[..n], &text[..m]);
 }
 
 // The file of a problem's words.
-fn on_words() {
+fn on_words<R: Env + Files + Input>(rt: &R) {
     let mut text = io::large_buffer();
     let mut words = [0u32; input::LIST_WORDS];
-    let got = input::words(2, &mut text, &mut words, Use::List);
+    let got = input::words(rt, 2, &mut text, &mut words, Use::List);
     if !got.is_good {
         return;
     }
     let n = got.count;
     let m = got.text;
     let mut bytes = [0u8; problem::MOST_BYTES];
-    let told = input::written(&words[..n], &text[..m], &mut bytes, Subject::Given);
+    let told = input::written(rt, &words[..n], &text[..m], &mut bytes, Subject::Given);
     if !told.is_good {
         return;
     }
@@ -299,8 +311,8 @@ fn on_words() {
 }
 
 // Keeps a file that has been moved to a version under the name that an argument gives, and says how long it is.
-fn keep(bytes: &[u8], layout: Layout) {
-    if !output::keep(3, bytes) {
+fn keep<R: Env + Files>(rt: &R, bytes: &[u8], layout: Layout) {
+    if !output::keep(rt, 3, bytes) {
         return;
     }
     paper::say(b"done\n");
@@ -318,14 +330,14 @@ fn moved(file: &[u8], layout: Layout, out: &mut [u8]) -> Moved {
 }
 
 // A problem moved to a version.
-fn on_move(layout: Layout) {
+fn on_move<R: Env + Files + Input>(rt: &R, layout: Layout) {
     let mut text = io::large_buffer();
     let mut bytes = io::large_buffer();
-    let got = input::problem(Subject::Given, &mut text, &mut bytes);
+    let got = input::problem(rt, Subject::Given, &mut text, &mut bytes);
     if !got.is_good {
         return;
     }
-    if (0 < got.text) & output::is_same_name(2, 3) {
+    if (0 < got.text) & output::is_same_name(rt, 2, 3) {
         paper::say(
             b"ttplan: OUT is the word list that is read; a problem file needs a name of its own\n",
         );
@@ -335,39 +347,39 @@ fn on_move(layout: Layout) {
     let mut out = [0u8; problem::MOST_BYTES];
     let told = moved(&bytes[..n], layout, &mut out);
     match told {
-        Moved::Refused(q) => reasons::of_file(q, &bytes[..n], &[], &[], &[], Subject::Given),
+        Moved::Refused(q) => reasons::of_file(rt, q, &bytes[..n], &[], &[], &[], Subject::Given),
         Moved::File(k) => {
             let k = input::within_bytes(k, &out);
-            keep(&out[..k], layout);
+            keep(rt, &out[..k], layout);
         }
     }
 }
 
 // Plans document 003's example, and shows the matrix, its losses and the list of node 0.
-fn on_example() {
+fn on_example(rt: &impl Env) {
     let mut words = [0u32; 151];
     let got = example::words(&mut words);
     let n = got.count;
     let mut bytes = [0u8; problem::MOST_BYTES];
-    let told = input::written(&words[..n], &[], &mut bytes, Subject::Given);
+    let told = input::written(rt, &words[..n], &[], &mut bytes, Subject::Given);
     if !told.is_good {
         return;
     }
     let k = told.count;
-    show_example(&bytes[..k]);
+    show_example(rt, &bytes[..k]);
 }
 
 // Plans a problem and shows all of it: the matrix, the losses and the list of node 0.
-fn show_example(file: &[u8]) {
+fn show_example(rt: &impl Env, file: &[u8]) {
     let mut proposal = [0u32; planner::PLAN_WORDS];
     let got = planner::plan(file, &mut proposal);
     match got {
-        Planned::Refused(q) => reasons::of_file(q, file, &[], &[], &[], Subject::Given),
+        Planned::Refused(q) => reasons::of_file(rt, q, file, &[], &[], &[], Subject::Given),
         Planned::Proposal(n) => {
             let n = input::within(n, &proposal);
-            show_proposal(View::Example, file, &[], &proposal[..n], &[]);
+            show_proposal(rt, View::Example, file, &[], &proposal[..n], &[]);
             paper::end_line();
-            listing::show(file, &[], &proposal[..n], &[], 0);
+            listing::show(rt, file, &[], &proposal[..n], &[], 0);
         }
     }
 }
@@ -437,42 +449,42 @@ fn takes(command: Command, arguments: usize) -> bool {
 }
 
 // Does what the arguments ask for.
-pub fn run() {
-    let arguments = os::arg_count();
+pub fn run<R: Env + Files + Input>(rt: &R) {
+    let arguments = host::arg_count(rt);
     if arguments < 2 {
-        on_example();
+        on_example(rt);
         return;
     }
     let mut name = io::buffer();
-    let n = os::arg(1, &mut name);
+    let n = host::arg(rt, 1, &mut name);
     let command = command_named(&name[..n]);
     if !takes(command, arguments) {
         paper::say(b"use\n");
         return;
     }
-    obey(command, arguments);
+    obey(rt, command, arguments);
 }
 
 // Does what a command asks for, whose arguments have been counted.
-fn obey(command: Command, arguments: usize) {
+fn obey<R: Env + Files + Input>(rt: &R, command: Command, arguments: usize) {
     match command {
-        Command::Times => on_events(),
-        Command::File => on_words(),
-        Command::Up => on_move(Layout::Two),
-        Command::Back => on_move(Layout::One),
-        Command::Plan => on_problem(command),
-        Command::Words => on_problem(command),
+        Command::Times => on_events(rt),
+        Command::File => on_words(rt),
+        Command::Up => on_move(rt, Layout::Two),
+        Command::Back => on_move(rt, Layout::One),
+        Command::Plan => on_problem(rt, command),
+        Command::Words => on_problem(rt, command),
         Command::Show => {
             if arguments == 3 {
-                on_problem(command);
+                on_problem(rt, command);
             } else {
-                on_proposal(command, ALL_NODES);
+                on_proposal(rt, command, ALL_NODES);
             }
         }
-        Command::Lists => on_lists(arguments),
-        Command::Extend => extending::extend(),
-        Command::Hold => on_span(command, 5),
-        Command::Due => on_span(command, 4),
-        _ => on_proposal(command, ALL_NODES),
+        Command::Lists => on_lists(rt, arguments),
+        Command::Extend => extending::extend(rt),
+        Command::Hold => on_span(rt, command, 5),
+        Command::Due => on_span(rt, command, 4),
+        _ => on_proposal(rt, command, ALL_NODES),
     }
 }

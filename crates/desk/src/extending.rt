@@ -9,6 +9,7 @@ use files::{input, mark};
 use origin::Subject;
 use planner::answer::Planned;
 use rules::words;
+use std::rt::{Env, Files};
 use views::matrix::Form;
 use views::{changes, matrix, tables};
 
@@ -29,9 +30,9 @@ fn show_messages(p: &[u32], w: &[u32], kept: &[u32], old: &[u32], old_plan: &[u3
 }
 
 // Shows which nodes must be loaded anew, and which not.
-fn show_nodes(file: &[u8], w: &[u32], old_lists: &[u32; triggers::MOST_WORDS]) {
+fn show_nodes(rt: &impl Env, file: &[u8], w: &[u32], old_lists: &[u32; triggers::MOST_WORDS]) {
     let mut lists = [0u32; triggers::MOST_WORDS];
-    let is_done = listing::fill(file, &[], w, &[], &mut lists, Subject::Given);
+    let is_done = listing::fill(rt, file, &[], w, &[], &mut lists, Subject::Given);
     if is_done {
         changes::nodes(
             b"# nodes with a changed trigger list:",
@@ -52,6 +53,7 @@ fn show_nodes(file: &[u8], w: &[u32], old_lists: &[u32; triggers::MOST_WORDS]) {
 
 // Plans a new problem with what an old plan has for its messages, and shows the plan and what it changes.
 fn plan(
+    rt: &impl Env,
     file: &[u8],
     text: &[u8],
     p: &[u32],
@@ -67,6 +69,7 @@ fn plan(
     let got = planner::replan(file, &list[..count], &mut proposal);
     match got {
         Planned::Refused(q) => reasons::of_file(
+            rt,
             q,
             file,
             text,
@@ -79,27 +82,33 @@ fn plan(
             paper::say(b"done\n");
             tables::proposal_words(p, &proposal[..n], mark::of(p));
             show_messages(p, &proposal[..n], &list[..count], old, old_plan);
-            show_nodes(file, &proposal[..n], old_lists);
+            show_nodes(rt, file, &proposal[..n], old_lists);
         }
     }
 }
 
 // Reads the new problem, and plans it.
-fn plan_file(old: &[u32], old_plan: &[u32], old_lists: &[u32; triggers::MOST_WORDS])
+fn plan_file<R: Env + Files + Input>(
+    rt: &R,
+    old: &[u32],
+    old_plan: &[u32],
+    old_lists: &[u32; triggers::MOST_WORDS],
+)
     requires { WellFormed old.now }
 {
     let mut text = io::large_buffer();
     let mut bytes = io::large_buffer();
-    let got = input::problem(Subject::Given, &mut text, &mut bytes);
+    let got = input::problem(rt, Subject::Given, &mut text, &mut bytes);
     if !got.is_good {
         return;
     }
     let n = got.count;
     let m = got.text;
     let mut words = [FILL; words::MOST_WORDS];
-    let k = input::decoded(&bytes[..n], &mut words);
+    let k = input::decoded(rt, &bytes[..n], &mut words);
     if 0 < k {
         plan(
+            rt,
             &bytes[..n],
             &text[..m],
             &words[..k],
@@ -113,37 +122,42 @@ fn plan_file(old: &[u32], old_plan: &[u32], old_lists: &[u32; triggers::MOST_WOR
 // ---- the old problem and its plan
 
 // Goes on with an old problem and its plan, which are accepted.
-fn extend_accepted(file: &[u8], w: &[u32], lists: &[u32; triggers::MOST_WORDS]) {
+fn extend_accepted<R: Env + Files + Input>(
+    rt: &R,
+    file: &[u8],
+    w: &[u32],
+    lists: &[u32; triggers::MOST_WORDS],
+) {
     let mut words = [FILL; words::MOST_WORDS];
-    let n = input::decoded(file, &mut words);
+    let n = input::decoded(rt, file, &mut words);
     if 0 < n {
-        plan_file(&words[..n], w, lists);
+        plan_file(rt, &words[..n], w, lists);
     }
 }
 
 // Goes on with an old problem and its plan, if the plan is this problem's and accepted.
-fn extend_read(file: &[u8], text: &[u8], w: &[u32], plan: &[u8]) {
-    if mark::is_other(file, plan, Subject::Old) {
+fn extend_read<R: Env + Files + Input>(rt: &R, file: &[u8], text: &[u8], w: &[u32], plan: &[u8]) {
+    if mark::is_other(rt, file, plan, Subject::Old) {
         return;
     }
     let mut lists = [0u32; triggers::MOST_WORDS];
-    let is_accepted = listing::fill(file, text, w, plan, &mut lists, Subject::Old);
+    let is_accepted = listing::fill(rt, file, text, w, plan, &mut lists, Subject::Old);
     if is_accepted {
-        extend_accepted(file, w, &lists);
+        extend_accepted(rt, file, w, &lists);
     }
 }
 
 // Reads the old problem and its plan, and goes on.
-pub fn extend() {
+pub fn extend<R: Env + Files + Input>(rt: &R) {
     let mut text = io::large_buffer();
     let mut bytes = io::large_buffer();
-    let got = input::problem(Subject::Old, &mut text, &mut bytes);
+    let got = input::problem(rt, Subject::Old, &mut text, &mut bytes);
     if !got.is_good {
         return;
     }
     let mut plan = io::large_buffer();
     let mut words = [0u32; input::LIST_WORDS];
-    let told = input::words(4, &mut plan, &mut words, Use::List);
+    let told = input::words(rt, 4, &mut plan, &mut words, Use::List);
     if !told.is_good {
         return;
     }
@@ -151,5 +165,5 @@ pub fn extend() {
     let m = got.text;
     let k = told.count;
     let l = told.text;
-    extend_read(&bytes[..n], &text[..m], &words[..k], &plan[..l]);
+    extend_read(rt, &bytes[..n], &text[..m], &words[..k], &plan[..l]);
 }

@@ -6,7 +6,9 @@ ghost use Rattle.io.specs.Counts.{IsPrefixLen};
 
 use origin::Subject;
 use problem::{HEAD_BYTES, Layout};
-use reader::answer::Read;
+use reader::answer::Read as Answer;
+use std::io::{Error, Read};
+use std::rt::{Env, Files};
 use wordlist::hints::Hint;
 use wordlist::{hints, lines};
 use writer::Written;
@@ -46,56 +48,112 @@ pub fn within_bytes(n: usize, bytes: &[u8]) -> usize
 // ---- files
 
 // Says on standard error what the system has against a file, by its name.
-pub fn fail(name: &[u8]) {
+pub fn fail(name: &[u8], e: &Error) {
     paper::say(b"ttplan: ");
-    if wordlist::is_same(name, b"-") {
-        os::fail(b"standard input");
+    if is_dash(name) {
+        host::fail(b"standard input", e);
     } else {
-        os::fail(name);
+        host::fail(name, e);
     }
 }
 
-// Opens the file of this name for reading; a dash is standard input.
-pub fn open(name: &[u8]) -> i32 {
-    if wordlist::is_same(name, b"-") {
-        return libc::STDIN_FILENO;
-    }
-    os::open_read(name)
+// Whether a name is that of standard input.
+pub fn is_dash(name: &[u8]) -> bool {
+    wordlist::is_same(name, b"-")
 }
 
-// The bytes of the file of this name. One byte more is asked for, which tells a file that cannot be read, or is too long, from one that ends.
-fn read(name: &[u8], bytes: &mut [u8]) -> Taken
+// Whether an argument is a dash.
+fn is_dash_at(rt: &impl Env, i: usize) -> bool {
+    let mut name = io::buffer();
+    let n = host::arg(rt, i, &mut name);
+    is_dash(&name[..n])
+}
+
+// Whether the first argument names the command that reads argument 2 last.
+fn is_extend(rt: &impl Env) -> bool {
+    let mut name = io::buffer();
+    let n = host::arg(rt, 1, &mut name);
+    wordlist::is_same(&name[..n], b"extend")
+}
+
+// Whether standard input was read before argument i is: it is read once, and closed to an argument that comes behind.
+pub fn is_spent(rt: &impl Env, i: usize) -> bool {
+    if is_extend(rt) {
+        return (i != 3) & is_dash_at(rt, 3) | (i == 2) & is_dash_at(rt, 4);
+    }
+    (2 < i) & is_dash_at(rt, 2) | (3 < i) & is_dash_at(rt, 3)
+}
+
+// What the system says of an input that is closed.
+const CLOSED: i32 = 9;
+
+// Says that standard input was read before.
+pub fn fail_spent(name: &[u8]) {
+    fail(name, &Error::from_raw_os_error(CLOSED));
+}
+
+// What was read of a file that cannot be opened.
+pub fn nothing() -> Taken
+    ensures { result.count ≡ 0 }
+{
+    Taken {
+        is_good: false,
+        count: 0,
+    }
+}
+
+// The bytes of an open file. One byte more is asked for, which tells a file that cannot be read, or is too long, from one that ends.
+fn read_open<F: Read>(file: &mut F, name: &[u8], bytes: &mut [u8]) -> Taken
     ensures { IsPrefixLen result.count bytes.new }
 {
-    let fd = open(name);
-    if fd < 0 {
-        fail(name);
-        return Taken {
-            is_good: false,
-            count: 0,
-        };
-    }
-    let n = io::read_full(fd, bytes);
+    let n = host::read_full(file, bytes);
     let mut more = [0u8; 1];
-    let got = libc::read(fd, &mut more);
-    if got < 0 {
-        fail(name);
-    }
-    libc::close(fd);
-    if got > 0 {
-        blame(name);
-        paper::say(b": the file is longer than 65,536 bytes\n");
-    }
+    let is_good = match file.read(&mut more) {
+        Ok(0) => true,
+        Ok(_) => {
+            blame(name);
+            paper::say(b": the file is longer than 65,536 bytes\n");
+            false
+        }
+        Err(e) => {
+            fail(name, &e);
+            false
+        }
+    };
     Taken {
-        is_good: got == 0,
+        is_good: is_good,
         count: n,
+    }
+}
+
+// The bytes of the file of this name, which argument i has; a dash is standard input.
+fn read<R: Env + Files + Input>(rt: &R, i: usize, name: &[u8], bytes: &mut [u8]) -> Taken
+    ensures { IsPrefixLen result.count bytes.new }
+{
+    if is_dash(name) {
+        if is_spent(rt, i) {
+            fail_spent(name);
+            return nothing();
+        }
+        let mut reader = rt.reader();
+        return read_open(&mut reader, name, bytes);
+    }
+    match host::open_read(rt, name) {
+        Ok(file) => {
+            let mut file = file;
+            read_open(&mut file, name, bytes)
+        }
+        Err(e) => {
+            fail(name, &e);
+            nothing()
+        }
     }
 }
 
 // ---- word lists
 
 // What a word list is read for. Placements to keep may be none; a log has many words.
-#[derive(Drop)]
+#[derive(Clone, Copy)]
 pub enum Use {
     List,
     Kept,
@@ -221,12 +279,18 @@ pub fn text_words(name: &[u8], lines: usize, text: &[u8], words: &mut [u32], to:
 }
 
 // The words of the word list that an argument names, and its text.
-pub fn words(i: usize, text: &mut [u8], words: &mut [u32], to: Use) -> Source
+pub fn words<R: Env + Files + Input>(
+    rt: &R,
+    i: usize,
+    text: &mut [u8],
+    words: &mut [u32],
+    to: Use,
+) -> Source
     ensures { IsPrefixLen result.count words.new × IsPrefixLen result.text text.new }
 {
     let mut name = io::buffer();
-    let k = os::arg(i, &mut name);
-    let got = read(&name[..k], text);
+    let k = host::arg(rt, i, &mut name);
+    let got = read(rt, i, &name[..k], text);
     let n = got.count;
     if !got.is_good {
         return Source {
@@ -244,9 +308,9 @@ pub fn words(i: usize, text: &mut [u8], words: &mut [u32], to: Use) -> Source
 }
 
 // The number that an argument is, or one too large for a word.
-pub fn number(i: usize) -> u64 {
+pub fn number(rt: &impl Env, i: usize) -> u64 {
     let mut digits = [0u8; 16];
-    let n = os::arg(i, &mut digits);
+    let n = host::arg(rt, i, &mut digits);
     if n == 0 {
         return wordlist::NO_NUMBER;
     }
@@ -273,14 +337,15 @@ fn has_mark(bytes: &[u8]) -> bool {
 }
 
 // The words of a problem file in the front of a buffer that is large enough: how many they are, or 0 and why it is refused is said.
-pub fn decoded(file: &[u8], words: &mut [u32]) -> usize
+pub fn decoded(rt: &impl Env, file: &[u8], words: &mut [u32]) -> usize
     requires { most_words ≤ length words.old }
     ensures prefix_len { IsPrefixLen result words.new }
     ensures well_formed { 0 < result → WellFormed (take result words.new) }
 {
     let got = reader::decode(file, words);
-    let Read::Problem(n) = got else {
+    let Answer::Problem(n) = got else {
         reasons::of_file(
+            rt,
             reader::answer::refusal_of(got),
             file,
             &[],
@@ -302,13 +367,19 @@ pub fn layout(file: &[u8]) -> Layout {
 }
 
 // Writes the file of a problem's words, which a text has, over the bytes lent, or says why they are refused.
-pub fn written(words: &[u32], text: &[u8], bytes: &mut [u8], subject: Subject) -> Taken
+pub fn written(
+    rt: &impl Env,
+    words: &[u32],
+    text: &[u8],
+    bytes: &mut [u8],
+    subject: Subject,
+) -> Taken
     ensures { IsPrefixLen result.count bytes.new }
 {
     let got = writer::write(words, bytes);
     match got {
         Written::Refused(q) => {
-            reasons::of_words(q, words, text, subject);
+            reasons::of_words(rt, q, words, text, subject);
             Taken {
                 is_good: false,
                 count: 0,
@@ -338,12 +409,18 @@ fn copy(from: &[u8], to: &mut [u8]) -> usize
 
 // The problem file that an argument names, and its text. A name that ends in .tsm and a file that begins with the mark are problem files;
 // anything else is a word list, of which the file is made here.
-pub fn problem(subject: Subject, text: &mut [u8], bytes: &mut [u8]) -> Source
+pub fn problem<R: Env + Files + Input>(
+    rt: &R,
+    subject: Subject,
+    text: &mut [u8],
+    bytes: &mut [u8],
+) -> Source
     ensures { IsPrefixLen result.count bytes.new × IsPrefixLen result.text text.new }
 {
     let mut name = io::buffer();
-    let m = os::arg(origin::problem_at(subject), &mut name);
-    let got = read(&name[..m], text);
+    let i = origin::problem_at(subject);
+    let m = host::arg(rt, i, &mut name);
+    let got = read(rt, i, &name[..m], text);
     let n = got.count;
     if !got.is_good {
         return Source {
@@ -370,7 +447,7 @@ pub fn problem(subject: Subject, text: &mut [u8], bytes: &mut [u8]) -> Source
         };
     }
     let k = told.count;
-    let file = written(&words[..k], &text[..n], bytes, subject);
+    let file = written(rt, &words[..k], &text[..n], bytes, subject);
     Source {
         is_good: file.is_good,
         count: file.count,

@@ -4,6 +4,7 @@ use basics::{FILL, long};
 use origin::Subject;
 use reader::answer::Read;
 use rules::words;
+use std::rt::Env;
 use wordlist::{NO_NUMBER, lines};
 
 // The prime and the first value of the hash FNV-1a of 32 bits, here over words.
@@ -28,16 +29,16 @@ pub fn of(p: &[u32]) -> u32 {
 }
 
 // Says that a plan was made for another problem, by both names and marks.
-fn say_other(made: u32, mark: u32, subject: Subject) {
-    origin::named(b"ttplan: ", origin::plan_at(subject));
+fn say_other(rt: &impl Env, made: u32, mark: u32, subject: Subject) {
+    origin::named(rt, b"ttplan: ", origin::plan_at(subject));
     paper::say_mark(b" was made for problem ", made);
-    origin::named(b", and ", origin::problem_at(subject));
+    origin::named(rt, b", and ", origin::problem_at(subject));
     paper::say_mark(b" is problem ", mark);
     paper::say(b"; plan it anew, or take the line # problem out to use the plan as it stands\n");
 }
 
 // Whether the text of a plan says that it was made for another problem than this one, which is said then.
-fn is_of_other(p: &[u32], plan: &[u8], subject: Subject) -> bool {
+fn is_of_other(rt: &impl Env, p: &[u32], plan: &[u8], subject: Subject) -> bool {
     let made = lines::mark_of(plan);
     let mark = of(p);
     if NO_NUMBER <= made {
@@ -46,17 +47,17 @@ fn is_of_other(p: &[u32], plan: &[u8], subject: Subject) -> bool {
     if made == long(mark) {
         return false;
     }
-    say_other(made as u32, mark, subject);
+    say_other(rt, made as u32, mark, subject);
     true
 }
 
 // The same for the problem of a file; a file that has none tells nothing.
-pub fn is_other(file: &[u8], plan: &[u8], subject: Subject) -> bool {
+pub fn is_other(rt: &impl Env, file: &[u8], plan: &[u8], subject: Subject) -> bool {
     let mut words = [FILL; words::MOST_WORDS];
     let got = reader::decode(file, &mut words);
     if let Read::Problem(n) = got {
         let n = input::within(n, &words);
-        return is_of_other(&words[..n], plan, subject);
+        return is_of_other(rt, &words[..n], plan, subject);
     }
     false
 }

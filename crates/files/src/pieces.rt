@@ -6,6 +6,8 @@ ghost use Rattle.files.specs.Reading.{Reached};
 
 use super::input;
 use super::input::{Taken, Use};
+use std::io::Read;
+use std::rt::{Env, Files};
 use wordlist::lines;
 
 // The most words of a log: one pair more than can be due, so that a log that is too long is answered and not refused.
@@ -51,16 +53,23 @@ fn move_front(bytes: &mut [u8], from: usize, to: usize)
     }
 }
 
-// Reads once behind the bytes that are held, and answers how many there are then: no more than before at the end of the file.
-fn refill(fd: i32, bytes: &mut [u8], held: usize) -> Taken
+// Reads once behind the bytes that are held, and answers how many there are then: no more than before at the end of the file, and where the reading fails, which is said.
+fn refill<F: Read>(file: &mut F, name: &[u8], bytes: &mut [u8], held: usize) -> Taken
     requires { held ≤ length bytes.old }
     ensures { (held ≤ result.count) × (result.count ≤ length bytes.new) }
 {
-    let got = libc::read(fd, &mut bytes[held..]);
-    let more = io::count(got, &bytes[held..]);
-    Taken {
-        is_good: 0 <= got,
-        count: held + more,
+    match file.read(&mut bytes[held..]) {
+        Ok(more) => Taken {
+            is_good: true,
+            count: held + more,
+        },
+        Err(e) => {
+            input::fail(name, &e);
+            Taken {
+                is_good: false,
+                count: held,
+            }
+        }
     }
 }
 
@@ -136,15 +145,20 @@ fn take_some(name: &[u8], bytes: &mut [u8], words: &mut [u32], at: Place) -> Pla
 }
 
 // Reads once, and takes the whole lines that are held then; all at the end of the file.
-fn read_piece(name: &[u8], fd: i32, bytes: &mut [u8], words: &mut [u32], at: Place) -> Place
+fn read_piece<F: Read>(
+    name: &[u8],
+    file: &mut F,
+    bytes: &mut [u8],
+    words: &mut [u32],
+    at: Place,
+) -> Place
     requires { Reached bytes.old words.old at.held at.count at.lines at.left × (0 < at.left) }
     ensures { Reached bytes.new words.new result.held result.count result.lines result.left × (result.left < at.left) }
 {
     let held = at.held;
     let left = at.left;
-    let got = refill(fd, bytes, held);
+    let got = refill(file, name, bytes, held);
     if !got.is_good {
-        input::fail(name);
         return over(false, 0);
     }
     let more = got.count - held;
@@ -167,7 +181,7 @@ fn read_piece(name: &[u8], fd: i32, bytes: &mut [u8], words: &mut [u32], at: Pla
 }
 
 // The words of an open file, piece by piece.
-fn read_pieces(name: &[u8], fd: i32, words: &mut [u32]) -> Taken
+fn read_pieces<F: Read>(name: &[u8], file: &mut F, words: &mut [u32]) -> Taken
     ensures { IsPrefixLen result.count words.new }
 {
     let mut bytes = io::large_buffer();
@@ -179,7 +193,7 @@ fn read_pieces(name: &[u8], fd: i32, words: &mut [u32]) -> Taken
         left: MOST_BYTES,
     };
     while 0 < place.left {
-        let next = read_piece(name, fd, &mut bytes, words, place);
+        let next = read_piece(name, file, &mut bytes, words, place);
         place = next;
     }
     Taken {
@@ -189,20 +203,27 @@ fn read_pieces(name: &[u8], fd: i32, words: &mut [u32]) -> Taken
 }
 
 // The words of the log that an argument names.
-pub fn words(i: usize, words: &mut [u32]) -> Taken
+pub fn words<R: Env + Files + Input>(rt: &R, i: usize, words: &mut [u32]) -> Taken
     ensures { IsPrefixLen result.count words.new }
 {
     let mut name = io::buffer();
-    let n = os::arg(i, &mut name);
-    let fd = input::open(&name[..n]);
-    if fd < 0 {
-        input::fail(&name[..n]);
-        return Taken {
-            is_good: false,
-            count: 0,
-        };
+    let n = host::arg(rt, i, &mut name);
+    if input::is_dash(&name[..n]) {
+        if input::is_spent(rt, i) {
+            input::fail_spent(&name[..n]);
+            return input::nothing();
+        }
+        let mut reader = rt.reader();
+        return read_pieces(&name[..n], &mut reader, words);
     }
-    let got = read_pieces(&name[..n], fd, words);
-    libc::close(fd);
-    got
+    match host::open_read(rt, &name[..n]) {
+        Ok(file) => {
+            let mut file = file;
+            read_pieces(&name[..n], &mut file, words)
+        }
+        Err(e) => {
+            input::fail(&name[..n], &e);
+            input::nothing()
+        }
+    }
 }

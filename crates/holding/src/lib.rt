@@ -1,16 +1,19 @@
 // A log of the bus held against the plan, and the log that is due.
+#![tactic(auto)]
+
 ghost use Rattle.std.specs.Prelude.{◌<◌};
 ghost use Rattle.rules.specs.Problem.{WellFormed};
 
 use basics::{FILL, wide};
-use files::{input, pieces};
 use bus_log::{Difference, Due, Held, PAIR};
+use files::{input, pieces};
 use rules::words;
+use std::rt::{Env, Files};
 
 // ---- a send
 
 // What has an identifier.
-#[derive(Drop)]
+#[derive(Clone, Copy)]
 enum Bearer {
     Reference,
     Message(usize),
@@ -157,43 +160,50 @@ fn present(view: View, p: &[u32], w: &[u32], sends: &[u32])
 }
 
 // Reads the problem once more, and shows sends of it.
-fn show(view: View, file: &[u8], w: &[u32], sends: &[u32]) {
+fn show(rt: &impl Env, view: View, file: &[u8], w: &[u32], sends: &[u32]) {
     let mut words = [FILL; words::MOST_WORDS];
-    let n = input::decoded(file, &mut words);
+    let n = input::decoded(rt, file, &mut words);
     if 0 < n {
         present(view, &words[..n], w, sends);
     }
 }
 
 // Holds a log against a proposal, and says what came of it.
-fn hold(file: &[u8], text: &[u8], w: &[u32], plan: &[u8], log: &[u32], span: u32) {
+fn hold(rt: &impl Env, file: &[u8], text: &[u8], w: &[u32], plan: &[u8], log: &[u32], span: u32) {
     let got = bus_log::hold(file, w, log, span);
     match got {
-        Held::Refused(q) => reasons::of_log(q, file, text, w, plan, log.len(), span),
+        Held::Refused(q) => reasons::of_log(rt, q, file, text, w, plan, log.len(), span),
         Held::Clean => show_clean(log.len() / PAIR, span),
-        Held::Differs(d) => show(View::Difference(d), file, w, log),
+        Held::Differs(d) => show(rt, View::Difference(d), file, w, log),
     }
 }
 
 // Shows what a proposal has due in so many matrix cycles.
-pub fn show_due(file: &[u8], text: &[u8], w: &[u32], plan: &[u8], span: u32) {
+pub fn show_due(rt: &impl Env, file: &[u8], text: &[u8], w: &[u32], plan: &[u8], span: u32) {
     let mut sends = [FILL; bus_log::MOST_WORDS];
     let got = bus_log::due(file, w, span, &mut sends);
     match got {
-        Due::Refused(q) => reasons::of_log(q, file, text, w, plan, 0, span),
+        Due::Refused(q) => reasons::of_log(rt, q, file, text, w, plan, 0, span),
         Due::Words(n) => {
             let n = input::within(n, &sends);
-            show(View::List, file, w, &sends[..n]);
+            show(rt, View::List, file, w, &sends[..n]);
         }
     }
 }
 
 // Holds the log that an argument names.
-pub fn hold_file(file: &[u8], text: &[u8], w: &[u32], plan: &[u8], span: u32) {
+pub fn hold_file<R: Env + Files + Input>(
+    rt: &R,
+    file: &[u8],
+    text: &[u8],
+    w: &[u32],
+    plan: &[u8],
+    span: u32,
+) {
     let mut log = [FILL; pieces::LOG_WORDS];
-    let got = pieces::words(4, &mut log);
+    let got = pieces::words(rt, 4, &mut log);
     if got.is_good {
         let n = got.count;
-        hold(file, text, w, plan, &log[..n], span);
+        hold(rt, file, text, w, plan, &log[..n], span);
     }
 }

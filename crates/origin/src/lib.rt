@@ -1,14 +1,17 @@
 // Where something stands in what a person wrote: the file by its name, and the line of a text or the byte of a problem file.
+#![tactic(auto)]
+
 ghost use Rattle.std.specs.Prelude.{◌*◌, ◌<◌, ◌≤◌};
 ghost use Rattle.rules.specs.Parts.{Member};
 
 use problem::layout::{column_size, identifier_size, message_size};
 use problem::{HEAD_BYTES, Layout};
 use rules::words::{COLUMN_WORDS, HEADER_WORDS, MESSAGE_WORDS};
+use std::rt::Env;
 use wordlist::lines;
 
 // What a sentence speaks of: what a call is given, an old problem and its plan, a list of placements to keep, or placements that were carried over from an old plan.
-#[derive(Drop)]
+#[derive(Clone, Copy)]
 pub enum Subject {
     Given,
     Old,
@@ -31,9 +34,9 @@ pub fn say_name(name: &[u8]) {
 }
 
 // Says text, and the name that an argument gives behind it.
-pub fn named(s: &[u8], i: usize) {
+pub fn named(rt: &impl Env, s: &[u8], i: usize) {
     let mut name = io::buffer();
-    let n = os::arg(i, &mut name);
+    let n = host::arg(rt, i, &mut name);
     paper::say(s);
     say_name(&name[..n]);
 }

@@ -1,4 +1,6 @@
 // Printing for the programs: text, numbers, and columns of numbers on standard output; what is said besides on standard error.
+#![tactic(auto)]
+
 ghost use Rattle.std.specs.Prelude.{◌≡◌, length};
 
 // An identifier is shown with as many hexadecimal digits at least, as the field writes it: 0x031.

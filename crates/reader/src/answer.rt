@@ -5,7 +5,7 @@ ghost use Rattle.reader.specs.Answer.{refusal};
 use rules::Refusal;
 
 // How many words the problem has, or why it is none.
-#[derive(Drop)]
+#[derive(Clone, Copy)]
 pub enum Read {
     Problem(usize),
     Refused(Refusal),

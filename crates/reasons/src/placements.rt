@@ -10,6 +10,7 @@ use origin::Subject;
 use problem::recast::column_words;
 use reader::answer::Read;
 use rules::{Refusal, placing, words};
+use std::rt::Env;
 use wordlist::lines::Shape;
 
 // The words of a placement.
@@ -346,6 +347,7 @@ fn two(
 
 // What is wrong with placements for a well-formed problem.
 fn of_plan(
+    rt: &impl Env,
     q: Refusal,
     p: &[u32],
     text: &[u8],
@@ -356,7 +358,7 @@ fn of_plan(
 )
     requires { WellFormed p.now × (size ≤ 3) }
 {
-    origin::named(b", ", origin::plan_at(subject));
+    origin::named(rt, b", ", origin::plan_at(subject));
     match q {
         Refusal::ProposalLength => word_count(p, w, plan),
         Refusal::Range(j) => one(q, p, text, size, w, plan, wide(j), subject),
@@ -369,6 +371,7 @@ fn of_plan(
 
 // What is wrong with placements for a well-formed problem, or with the problem for the planner.
 fn of_problem(
+    rt: &impl Env,
     q: Refusal,
     p: &[u32],
     text: &[u8],
@@ -381,20 +384,28 @@ fn of_problem(
 {
     match q {
         Refusal::NoPlan => {
-            origin::named(b", ", origin::problem_at(subject));
+            origin::named(rt, b", ", origin::problem_at(subject));
             no_plan(p, text, size, w, subject);
         }
         Refusal::TooMany => {
-            origin::named(b", ", origin::problem_at(subject));
+            origin::named(rt, b", ", origin::problem_at(subject));
             origin::line(text, words::MESSAGES);
             too_many(p, w, subject);
         }
-        _ => of_plan(q, p, text, size, w, plan, subject),
+        _ => of_plan(rt, q, p, text, size, w, plan, subject),
     }
 }
 
 // What is wrong with placements for a problem file.
-pub fn of_file(q: Refusal, file: &[u8], text: &[u8], w: &[u32], plan: &[u8], subject: Subject) {
+pub fn of_file(
+    rt: &impl Env,
+    q: Refusal,
+    file: &[u8],
+    text: &[u8],
+    w: &[u32],
+    plan: &[u8],
+    subject: Subject,
+) {
     if file.len() < problem::HEAD_BYTES {
         return;
     }
@@ -402,6 +413,6 @@ pub fn of_file(q: Refusal, file: &[u8], text: &[u8], w: &[u32], plan: &[u8], sub
     let mut words = [FILL; words::MOST_WORDS];
     let got = reader::decode(file, &mut words);
     if let Read::Problem(n) = got {
-        of_problem(q, &words[..n], text, size, w, plan, subject);
+        of_problem(rt, q, &words[..n], text, size, w, plan, subject);
     }
 }

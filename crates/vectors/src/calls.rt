@@ -1,7 +1,7 @@
 // The calls that a record can have, each with its name, and one call on one case.
 use crate::record::WORD;
-use judge::Judged;
 use bus_log::{Difference, Due, Held};
+use judge::Judged;
 use planner::answer::Planned;
 use reader::Read;
 use response::{EVENT_WORDS, Responded};

@@ -1,4 +1,6 @@
 // Runs the prepared cases of the files that its arguments name against the calls, and says how many agree.
+#![tactic(auto)]
+
 mod calls;
 mod compare;
 mod record;
@@ -12,6 +14,8 @@ use record::{
     BLOCK_BYTES, INPUT_BYTES, INPUT_WORDS, LIST_BYTES, LIST_WORDS, LOG_BYTES, LOG_WORDS, MOST_ROOM,
     Number, OUTPUT_BYTES, Record, Sizes,
 };
+use std::io::Read;
+use std::rt::{Env, Files};
 
 // "TSV2", with which a file of cases starts, read as a number.
 const MARK: u32 = 0x54535632;
@@ -212,17 +216,24 @@ fn show(name: &[u8], at: u32, is_shown: bool, call: u8, d: Difference) -> bool {
 }
 
 // Reads the next case and runs it. The buffer for its log is the file's: it is too long to be filled for each case.
-fn next_case(fd: i32, name: &[u8], at: u32, is_shown: bool, log: &mut [u8]) -> Ran {
+fn next_case<F: Read>(file: &mut F, name: &[u8], at: u32, is_shown: bool, log: &mut [u8]) -> Ran {
     let mut head = [0u8; 1];
     let mut input = [0u8; INPUT_BYTES];
     let mut proposal = [0u8; LIST_BYTES];
     let mut block = [0u8; BLOCK_BYTES];
     let mut output = [0u8; OUTPUT_BYTES];
-    if io::read_full(fd, &mut head) != 1 {
+    if host::read_full(file, &mut head) != 1 {
         return stop(name, at, b" is missing\n");
     }
     let call = head[0];
-    let got = record::read_record(fd, &mut input, &mut proposal, log, &mut block, &mut output);
+    let got = record::read_record(
+        file,
+        &mut input,
+        &mut proposal,
+        log,
+        &mut block,
+        &mut output,
+    );
     let Record::Whole(size) = got else {
         return stop_at(name, at, got);
     };
@@ -235,22 +246,22 @@ fn next_case(fd: i32, name: &[u8], at: u32, is_shown: bool, log: &mut [u8]) -> R
 }
 
 // The number of cases of a file that starts as one.
-fn start_file(fd: i32) -> Number {
-    let start = record::read_number(fd);
+fn start_file<F: Read>(file: &mut F) -> Number {
+    let start = record::read_number(file);
     let Number::Is(mark) = start else {
         return Number::Missing;
     };
     if mark != MARK {
         return Number::Missing;
     }
-    record::read_number(fd)
+    record::read_number(file)
 }
 
 // The last line of a file, and whether there is more in it than its cases.
-fn end_file(fd: i32, name: &[u8], cases: u32, agree: u32) {
+fn end_file<F: Read>(file: &mut F, name: &[u8], cases: u32, agree: u32) {
     let mut more = [0u8; 1];
     paper::text(name);
-    if io::read_full(fd, &mut more) != 0 {
+    if host::read_full(file, &mut more) != 0 {
         paper::text(b": there is more behind the last case\n");
         paper::text(name);
     }
@@ -262,8 +273,8 @@ fn end_file(fd: i32, name: &[u8], cases: u32, agree: u32) {
 }
 
 // Runs the cases of a file, up to the last or to one that cannot be read. The first SHOWN that differ are shown.
-fn run_cases(fd: i32, name: &[u8], log: &mut [u8]) {
-    let start = start_file(fd);
+fn run_cases<F: Read>(file: &mut F, name: &[u8], log: &mut [u8]) {
+    let start = start_file(file);
     let Number::Is(count) = start else {
         paper::text(name);
         paper::text(b": this is no file of cases\n");
@@ -272,7 +283,7 @@ fn run_cases(fd: i32, name: &[u8], log: &mut [u8]) {
     let mut at: u32 = 0;
     let mut agree: u32 = 0;
     while at < count {
-        let ran = next_case(fd, name, at, at - agree < SHOWN, log);
+        let ran = next_case(file, name, at, at - agree < SHOWN, log);
         let Ran::Agrees(is_same) = ran else {
             return;
         };
@@ -281,41 +292,44 @@ fn run_cases(fd: i32, name: &[u8], log: &mut [u8]) {
         }
         at += 1;
     }
-    end_file(fd, name, count, agree);
+    end_file(file, name, count, agree);
 }
 
 // Runs the cases of a file, with one buffer for all their logs.
-fn run_file(fd: i32, name: &[u8]) {
+fn run_file<F: Read>(file: &mut F, name: &[u8]) {
     let mut log = [0u8; LOG_BYTES];
-    run_cases(fd, name, &mut log);
+    run_cases(file, name, &mut log);
 }
 
 // Runs the file that an argument names.
-fn run_argument(i: usize) {
+fn run_argument(rt: &(impl Env + Files), i: usize) {
     let mut path = io::buffer();
-    let length = os::arg(i, &mut path);
-    if os::errno() != 0 {
-        os::fail(b"a file's name");
-        return;
+    match host::argument(rt, i, &mut path) {
+        Ok(length) => run_named(rt, &path[..length]),
+        Err(e) => host::fail(b"a file's name", &e),
     }
-    let fd = os::open_read(&path[..length]);
-    if fd < 0 {
-        os::fail(&path[..length]);
-        return;
+}
+
+// Runs the file of this name.
+fn run_named(rt: &impl Files, name: &[u8]) {
+    match host::open_read(rt, name) {
+        Ok(file) => {
+            let mut file = file;
+            run_file(&mut file, name);
+        }
+        Err(e) => host::fail(name, &e),
     }
-    run_file(fd, &path[..length]);
-    libc::close(fd);
 }
 
 // Runs the files one after the other.
-fn main() {
-    let count = os::arg_count();
+fn main(rt: HostRuntime) {
+    let count = host::arg_count(&rt);
     if count < 2 {
         paper::text(b"vectors FILE..: runs the prepared cases of each file\n");
     }
     let mut i: usize = 1;
     while i < count {
-        run_argument(i);
+        run_argument(&rt, i);
         i += 1;
     }
 }

@@ -2,6 +2,8 @@
 ghost use Rattle.std.specs.Prelude.{◌+◌, ◌≤◌};
 ghost use Rattle.io.specs.Counts.{IsPrefixLen};
 
+use std::io::Read;
+
 // The bytes of a word.
 pub const WORD: usize = 4;
 
@@ -83,9 +85,9 @@ pub fn room(block: &[u8; BLOCK_BYTES]) -> usize {
 }
 
 // Reads a number of four bytes.
-pub fn read_number(fd: i32) -> Number {
+pub fn read_number<F: Read>(file: &mut F) -> Number {
     let mut b = [0u8; WORD];
-    let came = io::read_full(fd, &mut b);
+    let came = host::read_full(file, &mut b);
     if came != WORD {
         return Number::Missing;
     }
@@ -93,11 +95,11 @@ pub fn read_number(fd: i32) -> Number {
 }
 
 // Reads a part of a known length into the front of a buffer.
-fn read_bytes(fd: i32, length: usize, buffer: &mut [u8]) -> Part {
+fn read_bytes<F: Read>(file: &mut F, length: usize, buffer: &mut [u8]) -> Part {
     if buffer.len() < length {
         return Part::TooLong;
     }
-    let came = io::read_full(fd, &mut buffer[..length]);
+    let came = host::read_full(file, &mut buffer[..length]);
     if came != length {
         return Part::CutShort;
     }
@@ -105,31 +107,31 @@ fn read_bytes(fd: i32, length: usize, buffer: &mut [u8]) -> Part {
 }
 
 // Reads a part of bytes: its length, then the bytes.
-fn read_text(fd: i32, buffer: &mut [u8]) -> Part {
-    let length = read_number(fd);
+fn read_text<F: Read>(file: &mut F, buffer: &mut [u8]) -> Part {
+    let length = read_number(file);
     let Number::Is(count) = length else {
         return Part::CutShort;
     };
-    read_bytes(fd, basics::wide(count), buffer)
+    read_bytes(file, basics::wide(count), buffer)
 }
 
 // Reads a part of words: how many, then four bytes each.
-fn read_list(fd: i32, buffer: &mut [u8]) -> Part {
-    let length = read_number(fd);
+fn read_list<F: Read>(file: &mut F, buffer: &mut [u8]) -> Part {
+    let length = read_number(file);
     let Number::Is(count) = length else {
         return Part::CutShort;
     };
-    read_bytes(fd, WORD * basics::wide(count), buffer)
+    read_bytes(file, WORD * basics::wide(count), buffer)
 }
 
 // Reads list C, a log, and past list D, which no call takes yet; answers how many bytes the log has.
-fn read_log(fd: i32, log: &mut [u8]) -> Part {
-    let third = read_list(fd, log);
+fn read_log<F: Read>(file: &mut F, log: &mut [u8]) -> Part {
+    let third = read_list(file, log);
     let Part::Bytes(n) = third else {
         return third;
     };
     let mut list = [0u8; LIST_BYTES];
-    let fourth = read_list(fd, &mut list);
+    let fourth = read_list(file, &mut list);
     let Part::Bytes(_) = fourth else {
         return fourth;
     };
@@ -137,13 +139,13 @@ fn read_log(fd: i32, log: &mut [u8]) -> Part {
 }
 
 // Reads past the second output, which no call has yet; its length is compared.
-fn pass_output(fd: i32) -> Part {
+fn pass_output<F: Read>(file: &mut F) -> Part {
     let mut output = [0u8; LIST_BYTES];
-    read_text(fd, &mut output)
+    read_text(file, &mut output)
 }
 
 // How many bytes the parts of a record have.
-#[derive(Drop)]
+#[derive(Clone, Copy)]
 pub struct Sizes {
     pub input: usize,
     pub proposal: usize,
@@ -169,34 +171,34 @@ fn broken(p: Part) -> Record {
 }
 
 // Reads the parts of a record behind its call, each into the front of its own buffer.
-pub fn read_record(
-    fd: i32,
+pub fn read_record<F: Read>(
+    file: &mut F,
     input: &mut [u8],
     proposal: &mut [u8],
     log: &mut [u8],
     block: &mut [u8; BLOCK_BYTES],
     output: &mut [u8],
 ) -> Record {
-    let of_input = read_text(fd, input);
+    let of_input = read_text(file, input);
     let Part::Bytes(a) = of_input else {
         return broken(of_input);
     };
-    let of_proposal = read_list(fd, proposal);
+    let of_proposal = read_list(file, proposal);
     let Part::Bytes(b) = of_proposal else {
         return broken(of_proposal);
     };
-    let of_log = read_log(fd, log);
+    let of_log = read_log(file, log);
     let Part::Bytes(c) = of_log else {
         return broken(of_log);
     };
-    if io::read_full(fd, block) != BLOCK_BYTES {
+    if host::read_full(file, block) != BLOCK_BYTES {
         return Record::CutShort;
     }
-    let of_output = read_text(fd, output);
+    let of_output = read_text(file, output);
     let Part::Bytes(o) = of_output else {
         return broken(of_output);
     };
-    let of_output_2 = pass_output(fd);
+    let of_output_2 = pass_output(file);
     let Part::Bytes(o2) = of_output_2 else {
         return broken(of_output_2);
     };

@@ -11,7 +11,7 @@ use rules::words;
 const WIDTH: usize = 7;
 
 // What is shown, and where: the windows alone, the matrix, or the matrix as comments of a word list.
-#[derive(Drop)]
+#[derive(Clone, Copy)]
 pub enum Form {
     Windows,
     Matrix,

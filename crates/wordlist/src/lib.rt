@@ -1,4 +1,6 @@
 // Word lists: numbers between white space, decimal or with 0x in front hexadecimal, where # begins a comment that the end of the line ends.
+#![tactic(auto)]
+
 pub mod hints;
 pub mod lines;
 

@@ -71,7 +71,7 @@ fn line_end(text: &[u8], from: usize) -> usize
 // ---- records, one a line
 
 // Records, each on a line of its own: the first has so many words, the next few so many, and the others so many.
-#[derive(Drop)]
+#[derive(Clone, Copy)]
 pub struct Shape {
     pub records: usize,
     pub first: usize,

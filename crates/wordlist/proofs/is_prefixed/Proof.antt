@@ -7,8 +7,8 @@ use borrow.Author.Rules.{rules}
 use Rattle.wordlist.proofs.is_prefixed.Statement.{statement}
 use Rattle.wordlist.proofs.is_prefixed.Tie as tie
 
-pub is-prefixed-spec : {M : Type 1} → statement M
-is-prefixed-spec =
+pub is_prefixed_spec : {M : Type 1} → statement M
+is_prefixed_spec =
     tie.close
     (tie.spec
     (λ c. λ h. absurd (let z : ◌≡◌ {A = ℕ} 0 1 = cc in omega arith))

@@ -5,14 +5,14 @@ use borrow.Author.Rules.{rules}
 use Rattle.wordlist.proofs.next_word.Statement.{statement}
 use Rattle.wordlist.proofs.next_word.Tie as tie
 
-abbrev invariant-loop : tie.invariant-loop
+abbrev invariant-loop : tie.invariant-loop-i
 invariant-loop text from in-comment₀ i₀ in-comment i = (from ≤ i) × (i ≤ length text)
 
-abbrev decreases-loop : tie.decreases-loop
+abbrev decreases-loop : tie.decreases-loop-i
 decreases-loop text from in-comment₀ i₀ in-comment i = length text - i
 
-pub next-word-spec : {M : Type 1} → statement M
-next-word-spec =
+pub next_word_spec : {M : Type 1} → statement M
+next_word_spec =
     tie.close
     (tie.spec
     invariant-loop

@@ -8,31 +8,31 @@ use borrow.Author.Rules.{rules}
 use Rattle.wordlist.proofs.number_in.Statement.{statement}
 use Rattle.wordlist.proofs.number_in.Tie as tie
 
-abbrev invariant-loop : tie.invariant-loop
+abbrev invariant-loop : tie.invariant-loop-i
 invariant-loop base digits value₀ i₀ value i = (i ≤ length digits) × (value < 4294967296) × Writes base digits i value
 
-abbrev decreases-loop : tie.decreases-loop
+abbrev decreases-loop : tie.decreases-loop-i
 decreases-loop base digits value₀ i₀ value i = length digits - i
 
-mul-value : tie.Need-overflow-mul-value invariant-loop decreases-loop
+mul-value : tie.Need-overflow_mul-value invariant-loop decreases-loop
 mul-value c =
     let turn = c.before.before.before.before in
-    let h = times-base turn.loop.invariant.1 turn.before.before.requires in
+    let h = times-base turn.loop-i.invariant.1 turn.before.before.requires in
     search rules
 
-add-value : tie.Need-overflow-add-value invariant-loop decreases-loop
+add-value : tie.Need-overflow_add-value invariant-loop decreases-loop
 add-value c =
     let turn = c.before.before.before.before in
-    let h = times-base turn.loop.invariant.1 turn.before.before.requires in
+    let h = times-base turn.loop-i.invariant.1 turn.before.before.requires in
     search rules
 
-loop-again : tie.Need-loop-preserved invariant-loop decreases-loop
+loop-again : tie.Need-loop-i-preserved invariant-loop decreases-loop
 loop-again c =
     let turn = c.before.before.before.before.before in
-    (search rules, search rules, writes_more turn.loop.invariant.2 c.before.before.digit.ensures (omega arith))
+    (search rules, search rules, writes_more turn.loop-i.invariant.2 c.before.before.digit-d.ensures (omega arith))
 
-pub number-in-spec : {M : Type 1} → statement M
-number-in-spec =
+pub number_in_spec : {M : Type 1} → statement M
+number_in_spec =
     tie.close
     (tie.spec
     invariant-loop
@@ -47,4 +47,4 @@ number-in-spec =
     (λ c. search rules)
     (λ c. search rules)
     loop-again
-    (λ c. in-base c.before.loop.invariant.2 c.before.loop.invariant.1 (omega arith)))
+    (λ c. in-base c.before.loop-i.invariant.2 c.before.loop-i.invariant.1 (omega arith)))

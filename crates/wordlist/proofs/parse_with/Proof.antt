@@ -9,14 +9,14 @@ use borrow.Author.Rules.{rules}
 use Rattle.wordlist.proofs.parse_with.Statement.{statement}
 use Rattle.wordlist.proofs.parse_with.Tie as tie
 
-abbrev invariant-loop : tie.invariant-loop
+abbrev invariant-loop : tie.invariant-loop-at
 invariant-loop text words₀ dash count₀ at₀ words count at = (count ≤ length words) × (length words ≡ length words₀) × (at ≤ length text)
 
-abbrev decreases-loop : tie.decreases-loop
+abbrev decreases-loop : tie.decreases-loop-at
 decreases-loop text words₀ dash count₀ at₀ words count at = length text - at
 
-pub parse-with-spec : {M : Type 1} → statement M
-parse-with-spec =
+pub parse_with_spec : {M : Type 1} → statement M
+parse_with_spec =
     tie.close
     (tie.spec
     invariant-loop

@@ -4,14 +4,14 @@ use borrow.Author.Rules.{rules}
 use Rattle.broken.proofs.fields.first_like.Statement.{statement}
 use Rattle.broken.proofs.fields.first_like.Tie as tie
 
-abbrev invariant-loop : tie.invariant-loop
+abbrev invariant-loop : tie.invariant-loop-i
 invariant-loop words size j identifier i₀ i = i ≤ j
 
-abbrev decreases-loop : tie.decreases-loop
+abbrev decreases-loop : tie.decreases-loop-i
 decreases-loop words size j identifier i₀ i = j - i
 
-pub first-like-spec : {M : Type 1} → statement M
-first-like-spec =
+pub first_like_spec : {M : Type 1} → statement M
+first_like_spec =
     tie.close
     (tie.spec
     invariant-loop

@@ -5,14 +5,14 @@ use borrow.Author.Rules.{rules}
 use Rattle.wordlist.proofs.hints.has.Statement.{statement}
 use Rattle.wordlist.proofs.hints.has.Tie as tie
 
-abbrev invariant-loop : tie.invariant-loop
+abbrev invariant-loop : tie.invariant-loop-i
 invariant-loop text b i₀ i = i ≤ length text
 
-abbrev decreases-loop : tie.decreases-loop
+abbrev decreases-loop : tie.decreases-loop-i
 decreases-loop text b i₀ i = length text - i
 
-pub has-spec : {M : Type 1} → statement M
-has-spec =
+pub has_spec : {M : Type 1} → statement M
+has_spec =
     tie.close
     (tie.spec
     invariant-loop

@@ -5,14 +5,14 @@ use borrow.Author.Rules.{rules}
 use Rattle.wordlist.proofs.hints.has_no_break_space.Statement.{statement}
 use Rattle.wordlist.proofs.hints.has_no_break_space.Tie as tie
 
-abbrev invariant-loop : tie.invariant-loop
+abbrev invariant-loop : tie.invariant-loop-i
 invariant-loop text before₀ i₀ before i = i ≤ length text
 
-abbrev decreases-loop : tie.decreases-loop
+abbrev decreases-loop : tie.decreases-loop-i
 decreases-loop text before₀ i₀ before i = length text - i
 
-pub has-no-break-space-spec : {M : Type 1} → statement M
-has-no-break-space-spec =
+pub has_no_break_space_spec : {M : Type 1} → statement M
+has_no_break_space_spec =
     tie.close
     (tie.spec
     invariant-loop

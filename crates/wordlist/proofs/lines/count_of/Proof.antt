@@ -5,14 +5,14 @@ use borrow.Author.Rules.{rules}
 use Rattle.wordlist.proofs.lines.count_of.Statement.{statement}
 use Rattle.wordlist.proofs.lines.count_of.Tie as tie
 
-abbrev invariant-loop : tie.invariant-loop
+abbrev invariant-loop : tie.invariant-loop-at
 invariant-loop text count₀ at₀ count at = (at ≤ length text) × (count ≤ at)
 
-abbrev decreases-loop : tie.decreases-loop
+abbrev decreases-loop : tie.decreases-loop-at
 decreases-loop text count₀ at₀ count at = length text - at
 
-pub count-of-spec : {M : Type 1} → statement M
-count-of-spec =
+pub count_of_spec : {M : Type 1} → statement M
+count_of_spec =
     tie.close
     (tie.spec
     invariant-loop

@@ -5,14 +5,14 @@ use borrow.Author.Rules.{rules}
 use Rattle.wordlist.proofs.lines.line_end.Statement.{statement}
 use Rattle.wordlist.proofs.lines.line_end.Tie as tie
 
-abbrev invariant-loop : tie.invariant-loop
+abbrev invariant-loop : tie.invariant-loop-i
 invariant-loop text from i₀ i = (from ≤ i) × (i ≤ length text)
 
-abbrev decreases-loop : tie.decreases-loop
+abbrev decreases-loop : tie.decreases-loop-i
 decreases-loop text from i₀ i = length text - i
 
-pub line-end-spec : {M : Type 1} → statement M
-line-end-spec =
+pub line_end_spec : {M : Type 1} → statement M
+line_end_spec =
     tie.close
     (tie.spec
     invariant-loop

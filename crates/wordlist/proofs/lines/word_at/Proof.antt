@@ -7,14 +7,14 @@ use borrow.Author.Rules.{rules}
 use Rattle.wordlist.proofs.lines.word_at.Statement.{statement}
 use Rattle.wordlist.proofs.lines.word_at.Tie as tie
 
-abbrev invariant-loop : tie.invariant-loop
+abbrev invariant-loop : tie.invariant-loop-i
 invariant-loop text k at₀ i₀ at i = (i ≤ k) × (at ≤ length text)
 
-abbrev decreases-loop : tie.decreases-loop
+abbrev decreases-loop : tie.decreases-loop-i
 decreases-loop text k at₀ i₀ at i = k - i
 
-pub word-at-spec : {M : Type 1} → statement M
-word-at-spec =
+pub word_at_spec : {M : Type 1} → statement M
+word_at_spec =
     tie.close
     (tie.spec
     invariant-loop
