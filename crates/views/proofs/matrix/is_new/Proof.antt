@@ -6,7 +6,7 @@ use Rattle.views.proofs.matrix.is_new.Statement.{statement}
 use Rattle.views.proofs.matrix.is_new.Tie as tie
 
 keeps-requires : tie.Need-keeps-requires
-keeps-requires c κs = ltb-true _ _ (sym c.before.gives.ensures ∙ not-false _ c.if1.false)
+keeps-requires c κs = ltb-true _ _ (sym c.gives.ensures ∙ not-false _ c.if-not-gives.false-raw)
 
-pub is-new-spec : {M : Type 1} → statement M
-is-new-spec = tie.close (tie.spec (λ c κs. search rules) (λ c. search rules) keeps-requires (λ c. search rules))
+pub is_new_spec : {M : Type 1} → statement M
+is_new_spec = tie.close (tie.spec (λ c κs. search rules) (λ c. search rules) keeps-requires (λ c. search rules))

@@ -7,17 +7,17 @@ use Rattle.views.proofs.matrix.is_sent.Statement.{statement}
 use Rattle.views.proofs.matrix.is_sent.Tie as tie
 
 -- the proposal has the words of message j
-given : (c : tie.Else1) → let start = c.before.before.before.before in Gives start.args.w.now start.args.j
-given c = ltb-true _ _ (sym c.before.gives.ensures ∙ not-false _ c.if1.false)
+given : (c : tie.Else-not-gives) → Gives c.args.w.now c.args.j
+given c = ltb-true _ _ (sym c.gives.ensures ∙ not-false _ c.if-not-gives.false-raw)
 
-column-of-requires : tie.Need-column-of-requires
+column-of-requires : tie.Need-column_of-requires
 column-of-requires c κs = given c
 
-row-of-requires : tie.Need-row-of-requires
+row-of-requires : tie.Need-row_of-requires
 row-of-requires c κs = given c.before
 
-pub is-sent-spec : {M : Type 1} → statement M
-is-sent-spec =
+pub is_sent_spec : {M : Type 1} → statement M
+is_sent_spec =
     tie.close
     (tie.spec
     (λ c κs. search rules)

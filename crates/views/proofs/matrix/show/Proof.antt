@@ -4,14 +4,14 @@ use borrow.Author.Rules.{rules}
 use Rattle.views.proofs.matrix.show.Statement.{statement}
 use Rattle.views.proofs.matrix.show.Tie as tie
 
-abbrev invariant-loop : tie.invariant-loop
+abbrev invariant-loop : tie.invariant-loop-from
 invariant-loop p w kept form columns size from₀ from = Unit {0}
 
-abbrev decreases-loop : tie.decreases-loop
+abbrev decreases-loop : tie.decreases-loop-from
 decreases-loop p w kept form columns size from₀ from = columns - from
 
-pub show-spec : {M : Type 1} → statement M
-show-spec =
+pub show_spec : {M : Type 1} → statement M
+show_spec =
     tie.close
     (tie.spec
     invariant-loop

@@ -4,14 +4,14 @@ use borrow.Author.Rules.{rules}
 use Rattle.views.proofs.matrix.show_cells.Statement.{statement}
 use Rattle.views.proofs.matrix.show_cells.Tie as tie
 
-abbrev invariant-loop : tie.invariant-loop
+abbrev invariant-loop : tie.invariant-loop-c
 invariant-loop p w kept r from to c₀ c = Unit {0}
 
-abbrev decreases-loop : tie.decreases-loop
+abbrev decreases-loop : tie.decreases-loop-c
 decreases-loop p w kept r from to c₀ c = to - c
 
-pub show-cells-spec : {M : Type 1} → statement M
-show-cells-spec =
+pub show_cells_spec : {M : Type 1} → statement M
+show_cells_spec =
     tie.close
     (tie.spec
     invariant-loop

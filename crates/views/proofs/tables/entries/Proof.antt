@@ -6,14 +6,14 @@ use borrow.Author.Rules.{rules}
 use Rattle.views.proofs.tables.entries.Statement.{statement}
 use Rattle.views.proofs.tables.entries.Tie as tie
 
-abbrev invariant-loop : tie.invariant-loop
+abbrev invariant-loop : tie.invariant-loop-i
 invariant-loop list i₀ i = i ≤ length list / entry_words
 
-abbrev decreases-loop : tie.decreases-loop
+abbrev decreases-loop : tie.decreases-loop-i
 decreases-loop list i₀ i = length list / entry_words - i
 
-pub entries-spec : {M : Type 1} → statement M
-entries-spec =
+pub entries_spec : {M : Type 1} → statement M
+entries_spec =
     tie.close
     (tie.spec
     invariant-loop

@@ -5,14 +5,14 @@ use borrow.Author.Rules.{rules}
 use Rattle.views.proofs.tables.lines.Statement.{statement}
 use Rattle.views.proofs.tables.lines.Tie as tie
 
-abbrev invariant-loop : tie.invariant-loop
+abbrev invariant-loop : tie.invariant-loop-at
 invariant-loop w size shown identifier at₀ at = at ≤ length w
 
-abbrev decreases-loop : tie.decreases-loop
+abbrev decreases-loop : tie.decreases-loop-at
 decreases-loop w size shown identifier at₀ at = length w - at
 
-pub lines-spec : {M : Type 1} → statement M
-lines-spec =
+pub lines_spec : {M : Type 1} → statement M
+lines_spec =
     tie.close
     (tie.spec
     invariant-loop
