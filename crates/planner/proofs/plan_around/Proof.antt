@@ -8,15 +8,15 @@ use Rattle.planner.proofs.plan_around.Tie as tie
 search-requires : tie.Need-search-requires
 search-requires c κs =
     record {
-      few = c.before.before.before.before.before.before.before.requires;
-      steps = c.before.before.before.steps_of.ensures;
+      few = c.requires;
+      steps = c.steps_of-steps.ensures;
       within = omega arith;
       stands = record { each = λ j l. absurd (omega arith) };
-      leaves = leaves_all _ c.before.before.before.before.allowed.ensures;
+      leaves = leaves_all _ c.allowed.ensures;
     }
 
 returns : tie.Need-returns
-returns c = searched-around c.before.before.before.before.before.allowed.ensures _ _ _ c.search.result.found c.search.ensures
+returns c = searched-around c.allowed.ensures _ _ _ c.search.result.found c.search.ensures
 
-pub plan-around-spec : {M : Type 1} → statement M
-plan-around-spec = tie.close (tie.spec (λ c κs. search rules) (λ c κs. search rules) search-requires returns)
+pub plan_around_spec : {M : Type 1} → statement M
+plan_around_spec = tie.close (tie.spec (λ c κs. search rules) (λ c κs. search rules) search-requires returns)

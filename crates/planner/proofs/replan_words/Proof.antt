@@ -17,101 +17,81 @@ use Rattle.planner.proofs.Promise.{too_many, too_short, not_found, is_found, fir
 use Rattle.planner.proofs.replan_words.Statement.{statement}
 use Rattle.planner.proofs.replan_words.Tie as tie
 
--- from where the kept placements have no fault back to the call's start, and from what completes them back to there
-abbrev begun : tie.After-enum-told → tie.Start
-begun c = c.before.before.before.before.before.before.before
+clear : (c : tie.In_default) → kept_fault c.args.p.now c.args.kept.now ≡ Clear
+clear c = sym c.kept_fault-fault.ensures.is ∙ c.in_default.is
 
-abbrev counted : tie.After-free-of → tie.After-enum-told
-counted c = c.before.before
-
-abbrev ready : tie.After-complete → tie.After-free-of
-ready c = c.before.before.before.before.before.before
-
-clear : (c : tie.After-enum-told) → kept_fault (begun c).args.p.now (begun c).args.kept.now ≡ Clear
-clear c = sym c.before.before.kept-fault.ensures.is ∙ c.enum_told.given.1
-
-words : (c : tie.After-enum-told) → length (begun c).args.kept.now ≡ proposal_words (begun c).args.p.now
+words : (c : tie.In_default) → length c.args.kept.now ≡ proposal_words c.args.p.now
 words c = ((kept-faultless _ _).0 (clear c)).words
 
 -- how many messages have no kept placement, and what a proposal needs
-abbrev others : tie.After-free-of → ℕ
-others c = let asked = (begun (counted c)).args in free_of asked.kept.now (messages asked.p.now)
+abbrev others : tie.After-free_of-left → ℕ
+others c = let asked = c.args in free_of asked.kept.now (messages asked.p.now)
 
-abbrev need : tie.After-free-of → ℕ
-need c = proposal_words (begun (counted c)).args.p.now
+abbrev need : tie.After-free_of-left → ℕ
+need c = proposal_words c.args.p.now
 
-free : (c : tie.After-free-of) → c.Free-of.result.count ≡ others c
-free c = rw c.before.messages-of.ensures.0 at c.Free-of.ensures.0.0
+free : (c : tie.After-free_of-left) → c.free_of-left.result.count ≡ others c
+free c = rw c.messages_of.ensures.0 at c.free_of-left.ensures.0.0
 
-kept-fault-requires : tie.Need-kept-fault-requires
-kept-fault-requires c κs = let start = c.before.before.before.before in (start.requires, words-none _ _ start.requires)
+kept-fault-requires : tie.Need-kept_fault-fault-requires
+kept-fault-requires c κs = (c.requires, words-none _ _ c.requires)
 
-returns : tie.Need-returns
-returns c = let tested = c.before.before.before in first-refused _ (sym tested.kept-fault.ensures.is ∙ c.before.fault.given.1)
+returns : tie.Need-returns-in-Bad
+returns c = first-refused _ (sym c.kept_fault-fault.ensures.is ∙ c.in-Bad.is)
 
-free-of-requires : tie.Need-free-of-requires
-free-of-requires c κs = (omega arith, omega (arith, c.messages-of.ensures.0, words c.before))
+free-of-requires : tie.Need-free_of-left-requires
+free-of-requires c κs = (omega arith, omega (arith, c.messages_of.ensures.0, words c.before))
 
-returns-2 : tie.Need-returns-2
+returns-2 : tie.Need-returns-then-left-gt-MOST_PLANNED
 returns-2 c =
-    let at = c.before in
-    first-clear _ (clear (counted at)) (too_many (others at) (need at) _ (omega (arith, free at)))
+    first-clear _ (clear c.before.before.before) (too_many (others c.before) (need c.before) _ (omega (arith, free c.before)))
 
-returns-3 : tie.Need-returns-3
+returns-3 : tie.Need-returns-then-proposal-kept
 returns-3 c =
-    let at = c.before.before in
-    first-clear _ (clear (counted at)) (too_short (others at) (need at) _ (omega (arith, free at)) (omega (arith, words (counted at))))
+    first-clear _ (clear c.before.before.before.before) (too_short (others c.before.before) (need c.before.before) _ (omega (arith, free c.before.before)) (omega (arith, words c.before.before.before.before)))
 
-complete-requires : tie.Need-complete-requires
+complete-requires : tie.Need-complete-got-requires
 complete-requires c κs =
-    let at = c.before.before.before.before.before in
-    let told = counted at in
     record {
-      formed = (begun told).pre;
-      faultless = clear told;
-      cells = told.before.before.kept-fault.ensures.words told.enum_told.given.1;
-      free = rw at.before.messages-of.ensures.0 at (at.Free-of.ensures.1 (omega arith));
+      formed = c.requires;
+      faultless = clear c.before.before.before.before.before.before;
+      cells = c.kept_fault-fault.ensures.words c.in_default.is;
+      free = rw c.messages_of.ensures.0 at (c.free_of-left.ensures.1 (omega arith));
       few = omega arith;
     }
 
-returns-4 : tie.Need-returns-4
+returns-4 : tie.Need-returns-then-not-got
 returns-4 c =
-    let done = c.before.before in
-    let at = ready done in
-    first-clear _ (clear (counted at))
-    (not_found (others at) (need at) _ (omega (arith, free at)) (omega (arith, words (counted at)))
-    (rw (not-true done.complete.result.found c.if3.true) at done.complete.ensures))
+    first-clear _ (clear c.before.before.before.before.before.before.before.before.before)
+    (not_found (others c.before.before.before.before.before.before.before) (need c.before.before.before.before.before.before.before) _ (omega (arith, free c.before.before.before.before.before.before.before)) (omega (arith, words c.before.before.before.before.before.before.before.before.before))
+    (rw (not-true c.complete-got.result.found c.if-not-got.true) at c.complete-got.ensures))
 
 -- what was found, where something was
-best : (c : tie.Else3)
-    → let start = begun (counted (ready c.before.before)) in Completed start.args.p.now start.args.kept.now c.before.before.complete.result.proposal
-best c = let done = c.before.before in rw (not-false done.complete.result.found c.if3.false) at done.complete.ensures
+best : (c : tie.Else-not-got)
+    → Completed c.args.p.now c.args.kept.now c.complete-got.result.proposal
+best c = rw (not-false c.complete-got.result.found c.if-not-got.false) at c.complete-got.ensures
 
-long : (c : tie.Else3) → length (begun (counted (ready c.before.before))).args.kept.now ≤ length c.before.before.complete.result.proposal
-long c = omega (arith, words (counted (ready c.before.before)), (best c).long)
+long : (c : tie.Else-not-got) → length c.args.kept.now ≤ length c.complete-got.result.proposal
+long c = omega (arith, words c.before.before.before.before.before.before.before.before.before, (best c).long)
 
-array-share-prefix-whole : tie.Need-array-share-prefix-whole
+array-share-prefix-whole : tie.Need-slice_bounds-whole-end
 array-share-prefix-whole c = omega (arith, long c.before)
 
-slice-aggregate-copy-words : tie.Need-slice-aggregate-copy-words
+slice-aggregate-copy-words : tie.Need-slice_bounds-copy_words-end
 slice-aggregate-copy-words c =
-    let found = c.before.before in
-    sym (length-take-le _ found.before.before.complete.result.proposal (omega (arith, long found)))
+    sym (length-take-le _ c.complete-got.result.proposal (omega (arith, long c.before.before)))
 
-copy-words-requires : tie.Need-copy-words-requires
+copy-words-requires : tie.Need-copy_words-requires
 copy-words-requires c κs =
-    let found = c.before.before.before in
-    omega (arith, length-take-le _ found.before.before.complete.result.proposal (long found))
+    omega (arith, length-take-le _ c.complete-got.result.proposal (long c.before.before.before))
 
-returns-5 : tie.Need-returns-5
+returns-5 : tie.Need-returns
 returns-5 c =
-    let found = c.before.before.before.before.before.before in
-    let at = ready found.before.before in
-    first-clear _ (clear (counted at))
-    (is_found (others at) (need at) _ (omega (arith, free at)) (omega (arith, words (counted at))) found.before.before.complete.result.proposal (rw (words (counted at)) (best found).least) (long found) c.before.before.copy-words.ensures)
+    first-clear _ (clear c.before.before.before.before.before.before.before.before.before.before.before.before.before.before.before)
+    (is_found (others c.before.before.before.before.before.before.before.before.before.before.before.before.before) (need c.before.before.before.before.before.before.before.before.before.before.before.before.before) _ (omega (arith, free c.before.before.before.before.before.before.before.before.before.before.before.before.before)) (omega (arith, words c.before.before.before.before.before.before.before.before.before.before.before.before.before.before.before)) c.complete-got.result.proposal (rw (words c.before.before.before.before.before.before.before.before.before.before.before.before.before.before.before) (best c.before.before.before.before.before.before).least) (long c.before.before.before.before.before.before) c.copy_words.ensures)
 
-pub replan-words-spec : {M : Type 1} → statement M
-replan-words-spec =
+pub replan_words_spec : {M : Type 1} → statement M
+replan_words_spec =
     tie.close
     (tie.spec
     kept-fault-requires
