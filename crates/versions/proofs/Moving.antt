@@ -1,7 +1,6 @@
 -- What shows the promises of up and back, that each settles its answer, and that there and back gives the old bytes.
 use Prim.Native.Nat.{ℕ, ◌≤◌}
 use mathlib.Core.Path.{◌≡◌, refl, sym, ap, ◌∙◌}
-use mathlib.Core.Bool.{not}
 use mathlib.Core.List.{List, ◌++◌}
 use borrow.Author.Tests.{eq-eqb, ne_eqb, le-ltb, eqb-true}
 use lib.ListN.{length, take, drop}

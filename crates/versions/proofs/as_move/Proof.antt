@@ -5,11 +5,11 @@ use borrow.Author.Rules.{rules}
 use Rattle.versions.proofs.as_move.Statement.{statement}
 use Rattle.versions.proofs.as_move.Tie as tie
 
-returns-2 : tie.Need-returns-2
-returns-2 c = let is = c.before.written2.given.1 in (sym (ap paper is), sym (ap count_of is))
+returns-2 : tie.Need-returns-in-Refused
+returns-2 c = let is = c.in-Refused.is in (sym (ap paper is), sym (ap count_of is))
 
-pub as-move-spec : {M : Type 1} → statement M
-as-move-spec =
+pub as_move_spec : {M : Type 1} → statement M
+as_move_spec =
     tie.close
     (tie.spec
     (λ c. search rules)

@@ -10,52 +10,44 @@ use borrow.Author.Rules.{rules}
 use Rattle.versions.proofs.back.Statement.{statement}
 use Rattle.versions.proofs.back.Tie as tie
 
-returns : tie.Need-returns
+returns : tie.Need-returns-in_default
 returns c =
-    answers-refused c.refusal-of.result refl refl (rw (refused-is c.before.before.before.before.open_in.ensures c.before.enum_told.given.1 c.refusal-of.ensures))
+    answers-refused c.refusal_of.result refl refl (rw (refused-is c.open_in-got.ensures c.in_default.is c.refusal_of.ensures))
 
-array-share-prefix-words : tie.Need-array-share-prefix-words
-array-share-prefix-words c = let got = c.before in (got.before.before.before.open_in.ensures.opens _ got.got.given.1).opened.within
+array-share-prefix-words : tie.Need-slice_bounds-words-end
+array-share-prefix-words c = (c.open_in-got.ensures.opens _ c.in-Problem.is).opened.within
 
-slice-aggregate-problem : tie.Need-slice-aggregate-problem
-slice-aggregate-problem c = let got = c.before.before in sym (opened-length (got.before.before.before.open_in.ensures.opens _ got.got.given.1).opened)
+slice-aggregate-problem : tie.Need-slice_bounds-problem-end
+slice-aggregate-problem c = sym (opened-length (c.open_in-got.ensures.opens _ c.in-Problem.is).opened)
 
-columns-of-requires : tie.Need-columns-of-requires
-columns-of-requires c κs = let got = c.before.before in (got.before.before.before.open_in.ensures.opens _ got.got.given.1).opened.formed
+columns-of-requires : tie.Need-columns_of-k-requires
+columns-of-requires c κs = (c.open_in-got.ensures.opens _ c.in-Problem.is).opened.formed
 
-messages-of-requires : tie.Need-messages-of-requires
-messages-of-requires c κs = let got = c.before.before.before in (got.before.before.before.open_in.ensures.opens _ got.got.given.1).opened.formed
+messages-of-requires : tie.Need-messages_of-m-requires
+messages-of-requires c κs = (c.open_in-got.ensures.opens _ c.in-Problem.is).opened.formed
 
-held-fault-requires : tie.Need-held-fault-requires
+held-fault-requires : tie.Need-held_fault-fault-requires
 held-fault-requires c κs =
-    let got = c.before.before.before.before in
-    let o = (got.before.before.before.open_in.ensures.opens _ got.got.given.1).opened in
-    formed-counted _ _ _ o.formed c.before.columns_of.ensures.0 c.messages-of.ensures.0
+    let o = (c.open_in-got.ensures.opens _ c.in-Problem.is).opened in
+    formed-counted _ _ _ o.formed c.columns_of-k.ensures.0 c.messages_of-m.ensures.0
 
-returns-2 : tie.Need-returns-2
+returns-2 : tie.Need-returns-in-Bad
 returns-2 c =
-    let tested = c.before.before.before in
-    let got = tested.before.before.before.before.before in
-    let o = got.before.before.before.open_in.ensures.opens _ got.got.given.1 in
-    lowering-unheld o tested.held-fault.ensures c.before.fault.given.1
+    let o = c.open_in-got.ensures.opens _ c.in-Problem.is in
+    lowering-unheld o c.held_fault-fault.ensures c.in-Bad.is
 
 lay-requires : tie.Need-lay-requires
 lay-requires c κs =
-    let got = c.before.before.before.before.before.before.before.before in
-    (got.before.before.before.open_in.ensures.opens _ got.got.given.1).opened.formed
+    (c.open_in-got.ensures.opens _ c.in-Problem.is).opened.formed
 
-returns-3 : tie.Need-returns-3
+returns-3 : tie.Need-returns
 returns-3 c =
-    let laid = c.before.before.before in
-    let clear = laid.before.before in
-    let tested = clear.before.before in
-    let got = tested.before.before.before.before.before in
-    let o = got.before.before.before.open_in.ensures.opens _ got.got.given.1 in
-    let held = ap (held_fault One) (sym o.opened.front) ∙ sym tested.held-fault.ensures ∙ clear.enum-told2.given.1 in
-    moved-laid One o.opened laid.lay.ensures c.as-move.ensures (rw (o.clear, held))
+    let o = c.open_in-got.ensures.opens _ c.in-Problem.is in
+    let held = ap (held_fault One) (sym o.opened.front) ∙ sym c.held_fault-fault.ensures ∙ c.in_default-fault.is in
+    moved-laid One o.opened c.lay.ensures c.as_move.ensures (rw (o.clear, held))
 
-pub back-spec : {M : Type 1} → statement M
-back-spec =
+pub back_spec : {M : Type 1} → statement M
+back_spec =
     tie.close
     (tie.spec
     (λ c. search rules)

@@ -13,33 +13,33 @@ use borrow.Author.Rules.{rules}
 use Rattle.versions.proofs.columns_held.Statement.{statement}
 use Rattle.versions.proofs.columns_held.Tie as tie
 
-abbrev invariant-loop : tie.invariant-loop
+abbrev invariant-loop : tie.invariant-loop-c
 invariant-loop layout p k m c₀ c = (c ≤ k) × ((i : ℕ) → i < c → column_unheld layout p i ≡ Clear)
 
-abbrev decreases-loop : tie.decreases-loop
+abbrev decreases-loop : tie.decreases-loop-c
 decreases-loop layout p k m c₀ c = k - c
 
-loop-holds : tie.Need-loop-init invariant-loop decreases-loop
+loop-holds : tie.Need-loop-c-init invariant-loop decreases-loop
 loop-holds c = (search rules, below_none _)
 
-kind-in-requires : tie.Need-kind-in-requires invariant-loop decreases-loop
-kind-in-requires c κs = has-column c.before.before.before.before.requires (omega arith)
+kind-in-requires : tie.Need-kind_in-requires invariant-loop decreases-loop
+kind-in-requires c κs = has-column c.requires (omega arith)
 
-returns : tie.Need-returns invariant-loop decreases-loop
+returns : tie.Need-returns-then-kind_most-kind_in invariant-loop decreases-loop
 returns c =
-    let at = c.before.before.before.before.loop in
-    sym (first-at _ _ _ _ (omega arith) at.invariant.1 (unheld (Unheld at.c) c.before.before.kind-most.ensures c.before.kind-in.ensures c.if1.true))
+    let at = c.loop-c in
+    sym (first-at _ _ _ _ (omega arith) at.invariant.1 (unheld (Unheld at.c) c.kind_most.ensures c.kind_in.ensures c.if-kind_most-kind_in.true))
 
-loop-again : tie.Need-loop-preserved invariant-loop decreases-loop
+loop-again : tie.Need-loop-c-preserved invariant-loop decreases-loop
 loop-again c =
-    let at = c.before.before.before.before.loop in
-    (search rules, below_more _ _ at.invariant.1 (is_held (Unheld at.c) c.before.before.kind-most.ensures c.before.kind-in.ensures c.if1.false))
+    let at = c.loop-c in
+    (search rules, below_more _ _ at.invariant.1 (is_held (Unheld at.c) c.kind_most.ensures c.kind_in.ensures c.if-kind_most-kind_in.false))
 
-returns-2 : tie.Need-returns-2 invariant-loop decreases-loop
-returns-2 c = sym (first-clear _ _ (λ i l. c.before.loop.invariant.1 i (omega arith)))
+returns-2 : tie.Need-returns invariant-loop decreases-loop
+returns-2 c = sym (first-clear _ _ (λ i l. c.loop-c.invariant.1 i (omega arith)))
 
-pub columns-held-spec : {M : Type 1} → statement M
-columns-held-spec =
+pub columns_held_spec : {M : Type 1} → statement M
+columns_held_spec =
     tie.close
     (tie.spec
     invariant-loop

@@ -5,19 +5,16 @@ use borrow.Author.Rules.{rules}
 use Rattle.versions.proofs.held_fault.Statement.{statement}
 use Rattle.versions.proofs.held_fault.Tie as tie
 
-returns : tie.Need-returns
+returns : tie.Need-returns-in_default
 returns c =
-    let start = c.before.before.before.before in
-    held-columns _ _ start.requires.columns-are c.before.before.columns-held.ensures c.enum-told2.given.1
+    held-columns _ _ c.requires.columns-are c.columns_held-of_columns.ensures c.in_default.is
 
-returns-2 : tie.Need-returns-2
+returns-2 : tie.Need-returns
 returns-2 c =
-    let clear = c.before in
-    let start = clear.before.before.before.before in
-    held-messages _ _ start.requires.columns-are start.requires.messages-are (sym clear.before.before.columns-held.ensures ∙ clear.enum_told.given.1) c.messages-held.ensures
+    held-messages _ _ c.requires.columns-are c.requires.messages-are (sym c.columns_held-of_columns.ensures ∙ c.in-Clear.is) c.messages_held.ensures
 
-pub held-fault-spec : {M : Type 1} → statement M
-held-fault-spec =
+pub held_fault_spec : {M : Type 1} → statement M
+held_fault_spec =
     tie.close
     (tie.spec
     (λ c κs. search rules)

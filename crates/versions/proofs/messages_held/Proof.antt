@@ -13,33 +13,33 @@ use borrow.Author.Rules.{rules}
 use Rattle.versions.proofs.messages_held.Statement.{statement}
 use Rattle.versions.proofs.messages_held.Tie as tie
 
-abbrev invariant-loop : tie.invariant-loop
+abbrev invariant-loop : tie.invariant-loop-j
 invariant-loop layout p k m j₀ j = (j ≤ m) × ((i : ℕ) → i < j → message_unheld layout p i ≡ Clear)
 
-abbrev decreases-loop : tie.decreases-loop
+abbrev decreases-loop : tie.decreases-loop-j
 decreases-loop layout p k m j₀ j = m - j
 
-loop-holds : tie.Need-loop-init invariant-loop decreases-loop
+loop-holds : tie.Need-loop-j-init invariant-loop decreases-loop
 loop-holds c = (search rules, below_none _)
 
-field-in-requires : tie.Need-field-in-requires invariant-loop decreases-loop
-field-in-requires c κs = (has-message c.before.before.before.before.requires (omega arith), omega arith)
+field-in-requires : tie.Need-field_in-requires invariant-loop decreases-loop
+field-in-requires c κs = (has-message c.requires (omega arith), omega arith)
 
-returns : tie.Need-returns invariant-loop decreases-loop
+returns : tie.Need-returns-then-identifier_most-field_in invariant-loop decreases-loop
 returns c =
-    let at = c.before.before.before.before.loop in
-    sym (first-at _ _ _ _ (omega arith) at.invariant.1 (unheld (Unheld at.j) c.before.before.identifier-most.ensures c.before.field_in.ensures c.if1.true))
+    let at = c.loop-j in
+    sym (first-at _ _ _ _ (omega arith) at.invariant.1 (unheld (Unheld at.j) c.identifier_most.ensures c.field_in.ensures c.if-identifier_most-field_in.true))
 
-loop-again : tie.Need-loop-preserved invariant-loop decreases-loop
+loop-again : tie.Need-loop-j-preserved invariant-loop decreases-loop
 loop-again c =
-    let at = c.before.before.before.before.loop in
-    (search rules, below_more _ _ at.invariant.1 (is_held (Unheld at.j) c.before.before.identifier-most.ensures c.before.field_in.ensures c.if1.false))
+    let at = c.loop-j in
+    (search rules, below_more _ _ at.invariant.1 (is_held (Unheld at.j) c.identifier_most.ensures c.field_in.ensures c.if-identifier_most-field_in.false))
 
-returns-2 : tie.Need-returns-2 invariant-loop decreases-loop
-returns-2 c = sym (first-clear _ _ (λ i l. c.before.loop.invariant.1 i (omega arith)))
+returns-2 : tie.Need-returns invariant-loop decreases-loop
+returns-2 c = sym (first-clear _ _ (λ i l. c.loop-j.invariant.1 i (omega arith)))
 
-pub messages-held-spec : {M : Type 1} → statement M
-messages-held-spec =
+pub messages_held_spec : {M : Type 1} → statement M
+messages_held_spec =
     tie.close
     (tie.spec
     invariant-loop

@@ -6,27 +6,25 @@ use borrow.Author.Rules.{rules}
 use Rattle.versions.proofs.open_in.Statement.{statement}
 use Rattle.versions.proofs.open_in.Tie as tie
 
-returns : tie.Need-returns
-returns c = open-refused _ c.before.before.before.before.decode.ensures c.enum-told2.given.1
+returns : tie.Need-returns-in_default
+returns c = open-refused _ c.decode-got.ensures c.in_default.is
 
 -- where the answer is a problem, the file has a header
-two-bytes-requires : tie.Need-two-bytes-requires
+two-bytes-requires : tie.Need-two_bytes-requires
 two-bytes-requires c κs =
-    let o = c.before.before.before.before.decode.ensures.opens _ c.enum_told.given.1 in
+    let o = c.decode-got.ensures.opens _ c.in-Problem.is in
     omega (arith, (head-right _ (file-parts _ o.clear).0).long)
 
-returns-2 : tie.Need-returns-2
+returns-2 : tie.Need-returns-then-two_bytes-version_of
 returns-2 c =
-    let told = c.before.before.before in
-    open-other _ told.before.before.before.before.decode.ensures told.enum_told.given.1 c.before.before.two_bytes.ensures.0 c.before.version_of.ensures c.if1.true
+    open-other _ c.decode-got.ensures c.in-Problem.is c.two_bytes.ensures.0 c.version_of.ensures c.if-two_bytes-version_of.true
 
-returns-3 : tie.Need-returns-3
+returns-3 : tie.Need-returns
 returns-3 c =
-    let told = c.before.before.before in
-    open-this _ told.before.before.before.before.decode.ensures told.enum_told.given.1 c.before.before.two_bytes.ensures.0 c.before.version_of.ensures c.if1.false
+    open-this _ c.decode-got.ensures c.in-Problem.is c.two_bytes.ensures.0 c.version_of.ensures c.if-two_bytes-version_of.false
 
-pub open-in-spec : {M : Type 1} → statement M
-open-in-spec =
+pub open_in_spec : {M : Type 1} → statement M
+open_in_spec =
     tie.close
     (tie.spec
     (λ c κs. search rules)

@@ -8,28 +8,26 @@ use borrow.Author.Rules.{rules}
 use Rattle.versions.proofs.up.Statement.{statement}
 use Rattle.versions.proofs.up.Tie as tie
 
-returns : tie.Need-returns
+returns : tie.Need-returns-in_default
 returns c =
-    answers-refused c.refusal-of.result refl refl (rw (refused-is c.before.before.before.before.open_in.ensures c.before.enum_told.given.1 c.refusal-of.ensures))
+    answers-refused c.refusal_of.result refl refl (rw (refused-is c.open_in-got.ensures c.in_default.is c.refusal_of.ensures))
 
-array-share-prefix-words : tie.Need-array-share-prefix-words
-array-share-prefix-words c = let got = c.before in (got.before.before.before.open_in.ensures.opens _ got.got.given.1).opened.within
+array-share-prefix-words : tie.Need-slice_bounds-words-end
+array-share-prefix-words c = (c.open_in-got.ensures.opens _ c.in-Problem.is).opened.within
 
-slice-aggregate-lay : tie.Need-slice-aggregate-lay
-slice-aggregate-lay c = let got = c.before.before in sym (opened-length (got.before.before.before.open_in.ensures.opens _ got.got.given.1).opened)
+slice-aggregate-lay : tie.Need-slice_bounds-lay-end
+slice-aggregate-lay c = sym (opened-length (c.open_in-got.ensures.opens _ c.in-Problem.is).opened)
 
 lay-requires : tie.Need-lay-requires
-lay-requires c κs = let got = c.before.before.before in (got.before.before.before.open_in.ensures.opens _ got.got.given.1).opened.formed
+lay-requires c κs = (c.open_in-got.ensures.opens _ c.in-Problem.is).opened.formed
 
-returns-2 : tie.Need-returns-2
+returns-2 : tie.Need-returns
 returns-2 c =
-    let laid = c.before.before.before in
-    let got = laid.before.before.before.before in
-    let o = got.before.before.before.open_in.ensures.opens _ got.got.given.1 in
-    moved-laid Two o.opened laid.lay.ensures c.as-move.ensures (rw o.clear)
+    let o = c.open_in-got.ensures.opens _ c.in-Problem.is in
+    moved-laid Two o.opened c.lay.ensures c.as_move.ensures (rw o.clear)
 
-pub up-spec : {M : Type 1} → statement M
-up-spec =
+pub up_spec : {M : Type 1} → statement M
+up_spec =
     tie.close
     (tie.spec
     (λ c. search rules)
