@@ -16,8 +16,8 @@ ghost use Rattle.versions.specs.Promise.{Raising, Lowering};
 ghost use Rattle.ffynorwel.specs.Eight.{eight, counted, read_words, written_words, moved_words, judged_words, listed_words, held_words, due_words, planned_words, responded_words};
 ghost use Rattle.ffynorwel.specs.Handed.{Handed};
 
-use judge::Judged;
 use bus_log::{Due, Held};
+use judge::Judged;
 use planner::Planned;
 use reader::Read;
 use response::Responded;

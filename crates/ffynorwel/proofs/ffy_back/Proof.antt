@@ -6,14 +6,14 @@ use borrow.Author.Rules.{rules}
 use Rattle.ffynorwel.proofs.ffy_back.Statement.{statement}
 use Rattle.ffynorwel.proofs.ffy_back.Tie as tie
 
-store-moved-requires : tie.Need-store-moved-requires
-store-moved-requires c κs = back_fits _ c.before.before.back.ensures
+store-moved-requires : tie.Need-store_moved-requires
+store-moved-requires c κs = back_fits _ c.back.ensures
 
 returns : tie.Need-returns
-returns c = handed c.before.before.before.back.ensures refl c.store-moved.ensures
+returns c = handed c.back.ensures refl c.store_moved.ensures
 
-pub ffy-back-spec : {M : Type 1} → statement M
-ffy-back-spec =
+pub ffy_back_spec : {M : Type 1} → statement M
+ffy_back_spec =
     tie.close
     (tie.spec
     (λ c κs. search rules)

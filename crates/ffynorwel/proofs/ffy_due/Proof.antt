@@ -5,16 +5,16 @@ use Rattle.ffynorwel.proofs.Handed.{handed}
 use Rattle.ffynorwel.proofs.ffy_due.Statement.{statement}
 use Rattle.ffynorwel.proofs.ffy_due.Tie as tie
 
-pub ffy-due-spec : {M : Type 1} → statement M
-ffy-due-spec =
+pub ffy_due_spec : {M : Type 1} → statement M
+ffy_due_spec =
     tie.close
     (tie.spec
     (λ c κs. search rules)
     (λ c. search rules)
-    (λ c κs. due-fits _ c.before.before.before.before.before.before.due.ensures c.before.before.got.given.1)
+    (λ c κs. due-fits _ c.due-got.ensures c.in-Words.is)
     (λ c. search rules)
     (λ c κs. search rules)
     (λ c. search rules)
-    (λ c. handed c.before.before.before.before.before.before.before.due.ensures c.before.before.before.got.given.1 c.wrote.ensures)
+    (λ c. handed c.due-got.ensures c.in-Words.is c.wrote.ensures)
     (λ c. search rules)
-    (λ c. handed c.before.before.before.before.before.before.before.due.ensures c.before.before.before.got2.given.1 c.refuse.ensures))
+    (λ c. handed c.due-got.ensures c.in-Refused.is c.refuse.ensures))

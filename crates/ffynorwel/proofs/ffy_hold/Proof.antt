@@ -4,8 +4,8 @@ use Rattle.ffynorwel.proofs.Handed.{handed}
 use Rattle.ffynorwel.proofs.ffy_hold.Statement.{statement}
 use Rattle.ffynorwel.proofs.ffy_hold.Tie as tie
 
-pub ffy-hold-spec : {M : Type 1} → statement M
-ffy-hold-spec =
+pub ffy_hold_spec : {M : Type 1} → statement M
+ffy_hold_spec =
     tie.close
     (tie.spec
     (λ c κs. search rules)
@@ -15,6 +15,6 @@ ffy-hold-spec =
     (λ c κs. search rules)
     (λ c. search rules)
     (λ c κs. search rules)
-    (λ c. handed c.before.before.before.before.hold.ensures c.before.before.enum_told.given.1 c.finish.ensures)
-    (λ c. handed c.before.before.before.before.before.hold.ensures c.before.before.before.got.given.1 c.finish2.ensures)
-    (λ c. handed c.before.before.before.before.before.hold.ensures c.before.before.before.got2.given.1 c.refuse.ensures))
+    (λ c. handed c.hold-got.ensures c.in-Clean.is c.finish.ensures)
+    (λ c. handed c.hold-got.ensures c.in-Differs.is c.finish-in-Differs.ensures)
+    (λ c. handed c.hold-got.ensures c.in-Refused.is c.refuse.ensures))

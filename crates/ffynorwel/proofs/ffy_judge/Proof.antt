@@ -4,8 +4,8 @@ use Rattle.ffynorwel.proofs.Handed.{handed}
 use Rattle.ffynorwel.proofs.ffy_judge.Statement.{statement}
 use Rattle.ffynorwel.proofs.ffy_judge.Tie as tie
 
-pub ffy-judge-spec : {M : Type 1} → statement M
-ffy-judge-spec =
+pub ffy_judge_spec : {M : Type 1} → statement M
+ffy_judge_spec =
     tie.close
     (tie.spec
     (λ c κs. search rules)
@@ -13,5 +13,5 @@ ffy-judge-spec =
     (λ c κs. search rules)
     (λ c. search rules)
     (λ c κs. search rules)
-    (λ c. handed c.before.before.before.before.before.judge.ensures c.before.before.before.got.given.1 c.finish.ensures)
-    (λ c. handed c.before.before.before.before.before.judge.ensures c.before.before.before.got2.given.1 c.refuse.ensures))
+    (λ c. handed c.judge-got.ensures c.in-Accepted.is c.finish.ensures)
+    (λ c. handed c.judge-got.ensures c.in-Refused.is c.refuse.ensures))

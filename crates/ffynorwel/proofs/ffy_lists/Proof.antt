@@ -5,16 +5,16 @@ use Rattle.ffynorwel.proofs.Handed.{handed}
 use Rattle.ffynorwel.proofs.ffy_lists.Statement.{statement}
 use Rattle.ffynorwel.proofs.ffy_lists.Tie as tie
 
-pub ffy-lists-spec : {M : Type 1} → statement M
-ffy-lists-spec =
+pub ffy_lists_spec : {M : Type 1} → statement M
+ffy_lists_spec =
     tie.close
     (tie.spec
     (λ c κs. search rules)
     (λ c. search rules)
-    (λ c κs. lists-fits _ c.before.before.before.before.before.before.lists.ensures c.before.before.got.given.1)
+    (λ c κs. lists-fits _ c.lists-got.ensures c.in-Lists.is)
     (λ c. search rules)
     (λ c κs. search rules)
     (λ c. search rules)
-    (λ c. handed c.before.before.before.before.before.before.before.lists.ensures c.before.before.before.got.given.1 c.wrote.ensures)
+    (λ c. handed c.lists-got.ensures c.in-Lists.is c.wrote.ensures)
     (λ c. search rules)
-    (λ c. handed c.before.before.before.before.before.before.before.lists.ensures c.before.before.before.got2.given.1 c.refuse.ensures))
+    (λ c. handed c.lists-got.ensures c.in-Refused.is c.refuse.ensures))

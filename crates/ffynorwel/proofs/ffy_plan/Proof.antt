@@ -6,14 +6,14 @@ use borrow.Author.Rules.{rules}
 use Rattle.ffynorwel.proofs.ffy_plan.Statement.{statement}
 use Rattle.ffynorwel.proofs.ffy_plan.Tie as tie
 
-store-planned-requires : tie.Need-store-planned-requires
-store-planned-requires c κs = plan-fits _ c.before.before.plan.ensures
+store-planned-requires : tie.Need-store_planned-requires
+store-planned-requires c κs = plan-fits _ c.plan.ensures
 
 returns : tie.Need-returns
-returns c = handed c.before.before.before.plan.ensures refl c.store-planned.ensures
+returns c = handed c.plan.ensures refl c.store_planned.ensures
 
-pub ffy-plan-spec : {M : Type 1} → statement M
-ffy-plan-spec =
+pub ffy_plan_spec : {M : Type 1} → statement M
+ffy_plan_spec =
     tie.close
     (tie.spec
     (λ c κs. search rules)

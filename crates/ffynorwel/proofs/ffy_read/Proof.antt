@@ -5,16 +5,16 @@ use Rattle.ffynorwel.proofs.Handed.{handed}
 use Rattle.ffynorwel.proofs.ffy_read.Statement.{statement}
 use Rattle.ffynorwel.proofs.ffy_read.Tie as tie
 
-pub ffy-read-spec : {M : Type 1} → statement M
-ffy-read-spec =
+pub ffy_read_spec : {M : Type 1} → statement M
+ffy_read_spec =
     tie.close
     (tie.spec
     (λ c κs. search rules)
     (λ c. search rules)
-    (λ c κs. read_fits _ c.before.before.before.before.before.before.read.ensures c.before.before.got.given.1)
+    (λ c κs. read_fits _ c.read-got.ensures c.in-Problem.is)
     (λ c. search rules)
     (λ c κs. search rules)
     (λ c. search rules)
-    (λ c. handed c.before.before.before.before.before.before.before.read.ensures c.before.before.before.got.given.1 c.wrote.ensures)
+    (λ c. handed c.read-got.ensures c.in-Problem.is c.wrote.ensures)
     (λ c. search rules)
-    (λ c. handed c.before.before.before.before.before.before.before.read.ensures c.before.before.before.got2.given.1 c.refuse.ensures))
+    (λ c. handed c.read-got.ensures c.in-Refused.is c.refuse.ensures))

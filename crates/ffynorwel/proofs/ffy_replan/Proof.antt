@@ -6,14 +6,14 @@ use borrow.Author.Rules.{rules}
 use Rattle.ffynorwel.proofs.ffy_replan.Statement.{statement}
 use Rattle.ffynorwel.proofs.ffy_replan.Tie as tie
 
-store-planned-requires : tie.Need-store-planned-requires
-store-planned-requires c κs = replan-fits _ c.before.before.replan.ensures
+store-planned-requires : tie.Need-store_planned-requires
+store-planned-requires c κs = replan-fits _ c.replan.ensures
 
 returns : tie.Need-returns
-returns c = handed c.before.before.before.replan.ensures refl c.store-planned.ensures
+returns c = handed c.replan.ensures refl c.store_planned.ensures
 
-pub ffy-replan-spec : {M : Type 1} → statement M
-ffy-replan-spec =
+pub ffy_replan_spec : {M : Type 1} → statement M
+ffy_replan_spec =
     tie.close
     (tie.spec
     (λ c κs. search rules)

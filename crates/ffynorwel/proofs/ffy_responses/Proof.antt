@@ -4,8 +4,8 @@ use Rattle.ffynorwel.proofs.Handed.{handed}
 use Rattle.ffynorwel.proofs.ffy_responses.Statement.{statement}
 use Rattle.ffynorwel.proofs.ffy_responses.Tie as tie
 
-pub ffy-responses-spec : {M : Type 1} → statement M
-ffy-responses-spec =
+pub ffy_responses_spec : {M : Type 1} → statement M
+ffy_responses_spec =
     tie.close
     (tie.spec
     (λ c κs. search rules)
@@ -14,6 +14,6 @@ ffy-responses-spec =
     (λ c. search rules)
     (λ c κs. search rules)
     (λ c. search rules)
-    (λ c. handed c.before.before.before.before.before.before.before.responses.ensures c.before.before.before.got.given.1 c.finish.ensures)
+    (λ c. handed c.responses-got.ensures c.in-Done.is c.finish.ensures)
     (λ c. search rules)
-    (λ c. handed c.before.before.before.before.before.before.before.responses.ensures c.before.before.before.got2.given.1 c.refuse.ensures))
+    (λ c. handed c.responses-got.ensures c.in-Refused.is c.refuse.ensures))

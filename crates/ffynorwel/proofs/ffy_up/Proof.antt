@@ -6,14 +6,14 @@ use borrow.Author.Rules.{rules}
 use Rattle.ffynorwel.proofs.ffy_up.Statement.{statement}
 use Rattle.ffynorwel.proofs.ffy_up.Tie as tie
 
-store-moved-requires : tie.Need-store-moved-requires
-store-moved-requires c κs = up_fits _ c.before.before.up.ensures
+store-moved-requires : tie.Need-store_moved-requires
+store-moved-requires c κs = up_fits _ c.up.ensures
 
 returns : tie.Need-returns
-returns c = handed c.before.before.before.up.ensures refl c.store-moved.ensures
+returns c = handed c.up.ensures refl c.store_moved.ensures
 
-pub ffy-up-spec : {M : Type 1} → statement M
-ffy-up-spec =
+pub ffy_up_spec : {M : Type 1} → statement M
+ffy_up_spec =
     tie.close
     (tie.spec
     (λ c κs. search rules)

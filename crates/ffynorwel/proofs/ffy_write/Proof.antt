@@ -5,16 +5,16 @@ use Rattle.ffynorwel.proofs.Handed.{handed}
 use Rattle.ffynorwel.proofs.ffy_write.Statement.{statement}
 use Rattle.ffynorwel.proofs.ffy_write.Tie as tie
 
-pub ffy-write-spec : {M : Type 1} → statement M
-ffy-write-spec =
+pub ffy_write_spec : {M : Type 1} → statement M
+ffy_write_spec =
     tie.close
     (tie.spec
     (λ c κs. search rules)
     (λ c. search rules)
-    (λ c κs. write-fits _ c.before.before.before.before.before.before.write.ensures c.before.before.got.given.1)
+    (λ c κs. write-fits _ c.write-got.ensures c.in-File.is)
     (λ c. search rules)
     (λ c κs. search rules)
     (λ c. search rules)
-    (λ c. handed c.before.before.before.before.before.before.before.write.ensures c.before.before.before.got.given.1 c.wrote.ensures)
+    (λ c. handed c.write-got.ensures c.in-File.is c.wrote.ensures)
     (λ c. search rules)
-    (λ c. handed c.before.before.before.before.before.before.before.write.ensures c.before.before.before.got2.given.1 c.refuse.ensures))
+    (λ c. handed c.write-got.ensures c.in-Refused.is c.refuse.ensures))

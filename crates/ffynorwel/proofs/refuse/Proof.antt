@@ -7,7 +7,7 @@ use Rattle.ffynorwel.proofs.refuse.Statement.{statement}
 use Rattle.ffynorwel.proofs.refuse.Tie as tie
 
 returns : tie.Need-returns
-returns c = c.store.ensures ∙ ap (λ (p : Paper). counted p 0) c.before.paper-of.ensures
+returns c = c.store.ensures ∙ ap (λ (p : Paper). counted p 0) c.paper_of.ensures
 
-pub refuse-spec : {M : Type 1} → statement M
-refuse-spec = tie.close (tie.spec (λ c κs. search rules) (λ c κs. search rules) returns)
+pub refuse_spec : {M : Type 1} → statement M
+refuse_spec = tie.close (tie.spec (λ c κs. search rules) (λ c κs. search rules) returns)

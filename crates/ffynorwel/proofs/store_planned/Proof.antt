@@ -8,16 +8,16 @@ use Rattle.ffynorwel.proofs.store_planned.Statement.{statement}
 use Rattle.ffynorwel.proofs.store_planned.Tie as tie
 
 wrote-requires : tie.Need-wrote-requires
-wrote-requires c κs = let got = c.before.before in omega (arith, got.before.before.requires, ap count_of got.got.given.1)
+wrote-requires c κs = omega (arith, c.requires, ap count_of c.in-Proposal.is)
 
-returns : tie.Need-returns
-returns c = c.wrote.ensures ∙ sym (ap planned_words c.before.before.before.got.given.1)
+returns : tie.Need-returns-in-Proposal
+returns c = c.wrote.ensures ∙ sym (ap planned_words c.in-Proposal.is)
 
-returns-2 : tie.Need-returns-2
-returns-2 c = c.refuse.ensures ∙ sym (ap planned_words c.before.before.before.got2.given.1)
+returns-2 : tie.Need-returns-in-Refused
+returns-2 c = c.refuse.ensures ∙ sym (ap planned_words c.in-Refused.is)
 
-pub store-planned-spec : {M : Type 1} → statement M
-store-planned-spec =
+pub store_planned_spec : {M : Type 1} → statement M
+store_planned_spec =
     tie.close
     (tie.spec
     (λ c. search rules)
