@@ -1,5 +1,5 @@
 // What the program is given: its arguments, and the files and word lists that they name. What cannot be read is said in one sentence on standard error.
-ghost use Rattle.std.specs.Prelude.{◌<◌, ◌≤◌, length, take};
+ghost use Rattle.std.specs.Prelude.{◌≡◌, ◌<◌, ◌≤◌, length, take};
 ghost use Rattle.rules.specs.Problem.{WellFormed, most_words};
 ghost use Rattle.files.specs.Reading.{most_bytes};
 ghost use Rattle.io.specs.Counts.{IsPrefixLen};

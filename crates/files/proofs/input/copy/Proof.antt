@@ -8,10 +8,10 @@ use borrow.Author.Rules.{rules}
 use Rattle.files.proofs.input.copy.Statement.{statement}
 use Rattle.files.proofs.input.copy.Tie as tie
 
-abbrev invariant-loop : tie.invariant-loop
+abbrev invariant-loop : tie.invariant-loop-i
 invariant-loop from to₀ i₀ to i = (i ≤ length to) × (length to ≡ length to₀)
 
-abbrev decreases-loop : tie.decreases-loop
+abbrev decreases-loop : tie.decreases-loop-i
 decreases-loop from to₀ i₀ to i = length from - i
 
 pub copy_spec : {M : Type 1} → statement M

@@ -4,8 +4,8 @@ use Rattle.io.proofs.Counting.{prefix_len_of_le}
 use Rattle.files.proofs.input.within.Statement.{statement}
 use Rattle.files.proofs.input.within.Tie as tie
 
-pub within-spec : {M : Type 1} → statement M
-within-spec =
+pub within_spec : {M : Type 1} → statement M
+within_spec =
     tie.close
     (tie.spec
     (λ c. prefix_len_of_le _ _ (omega arith))

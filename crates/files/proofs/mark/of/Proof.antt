@@ -5,10 +5,10 @@ use borrow.Author.Rules.{rules}
 use Rattle.files.proofs.mark.of.Statement.{statement}
 use Rattle.files.proofs.mark.of.Tie as tie
 
-abbrev invariant-loop : tie.invariant-loop
+abbrev invariant-loop : tie.invariant-loop-i
 invariant-loop p mark₀ i₀ mark i = i ≤ length p
 
-abbrev decreases-loop : tie.decreases-loop
+abbrev decreases-loop : tie.decreases-loop-i
 decreases-loop p mark₀ i₀ mark i = length p - i
 
 pub of_spec : {M : Type 1} → statement M

@@ -4,14 +4,14 @@ use borrow.Author.Rules.{rules}
 use Rattle.reasons.proofs.alone.fits_somewhere.Statement.{statement}
 use Rattle.reasons.proofs.alone.fits_somewhere.Tie as tie
 
-abbrev invariant-loop : tie.invariant-loop
+abbrev invariant-loop : tie.invariant-loop-c
 invariant-loop p j frame columns c₀ c = c ≤ columns
 
-abbrev decreases-loop : tie.decreases-loop
+abbrev decreases-loop : tie.decreases-loop-c
 decreases-loop p j frame columns c₀ c = columns - c
 
-pub fits-somewhere-spec : {M : Type 1} → statement M
-fits-somewhere-spec =
+pub fits_somewhere_spec : {M : Type 1} → statement M
+fits_somewhere_spec =
     tie.close
     (tie.spec
     invariant-loop

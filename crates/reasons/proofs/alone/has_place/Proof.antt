@@ -4,14 +4,14 @@ use borrow.Author.Rules.{rules}
 use Rattle.reasons.proofs.alone.has_place.Statement.{statement}
 use Rattle.reasons.proofs.alone.has_place.Tie as tie
 
-abbrev invariant-loop : tie.invariant-loop
+abbrev invariant-loop : tie.invariant-loop-r
 invariant-loop p taken j step r₀ r = r ≤ step
 
-abbrev decreases-loop : tie.decreases-loop
+abbrev decreases-loop : tie.decreases-loop-r
 decreases-loop p taken j step r₀ r = step - r
 
-pub has-place-spec : {M : Type 1} → statement M
-has-place-spec =
+pub has_place_spec : {M : Type 1} → statement M
+has_place_spec =
     tie.close
     (tie.spec
     invariant-loop

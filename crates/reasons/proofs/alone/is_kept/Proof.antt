@@ -6,10 +6,10 @@ use Rattle.reasons.proofs.alone.is_kept.Statement.{statement}
 use Rattle.reasons.proofs.alone.is_kept.Tie as tie
 
 keeps-requires : tie.Need-keeps-requires
-keeps-requires c κs = ltb-true _ _ (sym c.before.gives.ensures ∙ not-false _ c.if1.false)
+keeps-requires c κs = ltb-true _ _ (sym c.gives.ensures ∙ not-false _ c.if-not-gives.false-raw)
 
-pub is-kept-spec : {M : Type 1} → statement M
-is-kept-spec =
+pub is_kept_spec : {M : Type 1} → statement M
+is_kept_spec =
     tie.close
     (tie.spec
     (λ c κs. search rules)

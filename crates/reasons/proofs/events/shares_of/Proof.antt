@@ -7,13 +7,13 @@ use Rattle.reasons.specs.Shares.{whole}
 use Rattle.reasons.proofs.events.shares_of.Statement.{statement}
 use Rattle.reasons.proofs.events.shares_of.Tie as tie
 
-returns-3 : tie.Need-returns-3
+returns-3 : tie.Need-returns
 returns-3 c =
-    let period = c.before.before.before.before.wide.result in
-    omega (arith, div-le_self (c.frame-bits.result * whole + (period - 1)) period)
+    let period = c.wide-period.result in
+    omega (arith, div-le_self (c.frame_bits.result * whole + (period - 1)) period)
 
-pub shares-of-spec : {M : Type 1} → statement M
-shares-of-spec =
+pub shares_of_spec : {M : Type 1} → statement M
+shares_of_spec =
     tie.close
     (tie.spec
     (λ c κs. search rules)

@@ -5,14 +5,14 @@ use Rattle.reasons.specs.Shares.{most_shares}
 use Rattle.reasons.proofs.events.shares_with.Statement.{statement}
 use Rattle.reasons.proofs.events.shares_with.Tie as tie
 
-abbrev invariant-loop : tie.invariant-loop
+abbrev invariant-loop : tie.invariant-loop-i
 invariant-loop events j id n total₀ i₀ total i = (i ≤ n) × (total ≤ most_shares * i)
 
-abbrev decreases-loop : tie.decreases-loop
+abbrev decreases-loop : tie.decreases-loop-i
 decreases-loop events j id n total₀ i₀ total i = n - i
 
-pub shares-with-spec : {M : Type 1} → statement M
-shares-with-spec =
+pub shares_with_spec : {M : Type 1} → statement M
+shares_with_spec =
     tie.close
     (tie.spec
     invariant-loop

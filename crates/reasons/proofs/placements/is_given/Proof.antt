@@ -8,12 +8,12 @@ use borrow.Author.Rules.{rules}
 use Rattle.reasons.proofs.placements.is_given.Statement.{statement}
 use Rattle.reasons.proofs.placements.is_given.Tie as tie
 
-returns : tie.Need-returns
+returns : tie.Need-returns-then-messages_of-j
 returns c = λ h. absurd (let z : ◌≡◌ {A = ℕ} 0 1 = cc in omega arith)
 
-returns-2 : tie.Need-returns-2
+returns-2 : tie.Need-returns
 returns-2 c =
-    λ h. (member c.before.before.before.before.before.requires (omega arith), ltb-true _ _ (sym c.gives.ensures ∙ h))
+    λ h. (member c.requires (omega arith), ltb-true _ _ (sym c.gives.ensures ∙ h))
 
-pub is-given-spec : {M : Type 1} → statement M
-is-given-spec = tie.close (tie.spec (λ c κs. search rules) returns (λ c κs. search rules) returns-2)
+pub is_given_spec : {M : Type 1} → statement M
+is_given_spec = tie.close (tie.spec (λ c κs. search rules) returns (λ c κs. search rules) returns-2)

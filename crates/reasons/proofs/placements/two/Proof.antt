@@ -5,11 +5,11 @@ use Rattle.reasons.proofs.placements.two.Tie as tie
 
 meeting-requires : tie.Need-meeting-requires
 meeting-requires c κs =
-    let earlier = c.before.is-given2.ensures c.if2.true in
-    let later = c.before.before.before.is-given.ensures c.before.before.if1.true in
+    let earlier = c.is_given-then-is_given.ensures c.if-is_given-2.true in
+    let later = c.is_given.ensures c.if-is_given.true in
     ((earlier.0, later.0, search rules), (earlier.1, later.1))
 
-pub two-spec : {M : Type 1} → statement M
-two-spec =
+pub two_spec : {M : Type 1} → statement M
+two_spec =
     tie.close
     (tie.spec (λ c κs. search rules) (λ c κs. search rules) meeting-requires (λ c. search rules) (λ c. search rules) (λ c. search rules))
