@@ -4,8 +4,8 @@ ghost use Rattle.io.specs.Counts.{IsPrefixLen};
 ghost use Rattle.response.specs.Events.{most_events};
 
 use crate::build;
-use judge::Judged;
 use bus_log::{Due, Held};
+use judge::Judged;
 use planner::Planned;
 use reader::Read;
 use response::{EVENT_WORDS, MOST_EVENTS, Responded};

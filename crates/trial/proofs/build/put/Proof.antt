@@ -8,22 +8,22 @@ use borrow.Author.Rules.{rules}
 use Rattle.trial.proofs.build.put.Statement.{statement}
 use Rattle.trial.proofs.build.put.Tie as tie
 
-abbrev invariant-loop : tie.invariant-loop
+abbrev invariant-loop : tie.invariant-loop-i
 invariant-loop part at words₀ i₀ to₀ words i to = (i ≤ length part) × (length words ≡ length words₀)
 
-abbrev decreases-loop : tie.decreases-loop
+abbrev decreases-loop : tie.decreases-loop-i
 decreases-loop part at words₀ i₀ to₀ words i to = length part - i
 
-mul-words-2 : tie.Need-overflow-mul-words-2 invariant-loop decreases-loop
+mul-words-2 : tie.Need-offset_bounds-words-to invariant-loop decreases-loop
 mul-words-2 c = omega (arith, ltb-true)
 
-slice-write-words : tie.Need-slice-write-words invariant-loop decreases-loop
+slice-write-words : tie.Need-bounds-words-to invariant-loop decreases-loop
 slice-write-words c = omega (arith, ltb-true)
 
-add-to : tie.Need-overflow-add-to invariant-loop decreases-loop
+add-to : tie.Need-overflow_add-to invariant-loop decreases-loop
 add-to c = omega (arith, ltb-true)
 
-loop-again : tie.Need-loop-preserved invariant-loop decreases-loop
+loop-again : tie.Need-loop-i-preserved invariant-loop decreases-loop
 loop-again c = simp length-set (omega arith)
 
 pub put_spec : {M : Type 1} → statement M

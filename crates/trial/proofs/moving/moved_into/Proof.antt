@@ -6,8 +6,8 @@ use borrow.Author.Rules.{rules}
 use Rattle.trial.proofs.moving.moved_into.Statement.{statement}
 use Rattle.trial.proofs.moving.moved_into.Tie as tie
 
-pub moved-into-spec : {M : Type 1} → statement M
-moved-into-spec =
+pub moved_into_spec : {M : Type 1} → statement M
+moved_into_spec =
     tie.close
     (tie.spec
     (λ c κs. search rules)

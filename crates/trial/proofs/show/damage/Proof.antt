@@ -6,14 +6,14 @@ use borrow.Author.Rules.{rules}
 use Rattle.trial.proofs.show.damage.Statement.{statement}
 use Rattle.trial.proofs.show.damage.Tie as tie
 
-abbrev invariant-loop : tie.invariant-loop
+abbrev invariant-loop : tie.invariant-loop-i
 invariant-loop pairs file₀ i₀ file i = (i ≤ length pairs) × (length file ≡ length file₀)
 
-abbrev decreases-loop : tie.decreases-loop
+abbrev decreases-loop : tie.decreases-loop-i
 decreases-loop pairs file₀ i₀ file i = length pairs - i
 
-pub damage-spec : {M : Type 1} → statement M
-damage-spec =
+pub damage_spec : {M : Type 1} → statement M
+damage_spec =
     tie.close
     (tie.spec
     invariant-loop

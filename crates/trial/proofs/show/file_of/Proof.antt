@@ -5,8 +5,8 @@ use Rattle.io.proofs.Counting.{prefix_len_of_le}
 use Rattle.trial.proofs.show.file_of.Statement.{statement}
 use Rattle.trial.proofs.show.file_of.Tie as tie
 
-pub file-of-spec : {M : Type 1} → statement M
-file-of-spec =
+pub file_of_spec : {M : Type 1} → statement M
+file_of_spec =
     tie.close
     (tie.spec
     (λ c κs. search rules)

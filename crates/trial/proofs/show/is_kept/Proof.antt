@@ -5,14 +5,14 @@ use borrow.Author.Rules.{rules}
 use Rattle.trial.proofs.show.is_kept.Statement.{statement}
 use Rattle.trial.proofs.show.is_kept.Tie as tie
 
-abbrev invariant-loop : tie.invariant-loop
+abbrev invariant-loop : tie.invariant-loop-i
 invariant-loop words from i₀ i = Unit {0}
 
-abbrev decreases-loop : tie.decreases-loop
+abbrev decreases-loop : tie.decreases-loop-i
 decreases-loop words from i₀ i = length words - i
 
-pub is-kept-spec : {M : Type 1} → statement M
-is-kept-spec =
+pub is_kept_spec : {M : Type 1} → statement M
+is_kept_spec =
     tie.close
     (tie.spec
     invariant-loop

@@ -6,8 +6,8 @@ use borrow.Author.Rules.{rules}
 use Rattle.trial.proofs.show.write_due.Statement.{statement}
 use Rattle.trial.proofs.show.write_due.Tie as tie
 
-pub write-due-spec : {M : Type 1} → statement M
-write-due-spec =
+pub write_due_spec : {M : Type 1} → statement M
+write_due_spec =
     tie.close
     (tie.spec
     (λ c. search rules)

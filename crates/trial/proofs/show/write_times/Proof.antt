@@ -6,8 +6,8 @@ use borrow.Author.Rules.{rules}
 use Rattle.trial.proofs.show.write_times.Statement.{statement}
 use Rattle.trial.proofs.show.write_times.Tie as tie
 
-pub write-times-spec : {M : Type 1} → statement M
-write-times-spec =
+pub write_times_spec : {M : Type 1} → statement M
+write_times_spec =
     tie.close
     (tie.spec
     (λ c. search rules)
