@@ -1,4 +1,6 @@
 // The cases that the documents work by hand, the limits and crowded problems, each run and compared.
+#![tactic(auto)]
+
 mod again;
 mod crowded;
 mod document_000;

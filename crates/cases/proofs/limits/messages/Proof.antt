@@ -6,14 +6,14 @@ use borrow.Author.Rules.{rules}
 use Rattle.cases.proofs.limits.messages.Statement.{statement}
 use Rattle.cases.proofs.limits.messages.Tie as tie
 
-abbrev invariant-loop : tie.invariant-loop
+abbrev invariant-loop : tie.invariant-loop-j
 invariant-loop words₀ j₀ words j = (j ≤ 64) × (length words ≡ length words₀)
 
-abbrev decreases-loop : tie.decreases-loop
+abbrev decreases-loop : tie.decreases-loop-j
 decreases-loop words₀ j₀ words j = 64 - j
 
-pub messages-spec : {M : Type 1} → statement M
-messages-spec =
+pub messages_spec : {M : Type 1} → statement M
+messages_spec =
     tie.close
     (tie.spec
     invariant-loop
