@@ -6,8 +6,8 @@ use borrow.Author.Rules.{rules}
 use Rattle.vectors.proofs.log_case.Statement.{statement}
 use Rattle.vectors.proofs.log_case.Tie as tie
 
-pub log-case-spec : {M : Type 1} → statement M
-log-case-spec =
+pub log_case_spec : {M : Type 1} → statement M
+log_case_spec =
     tie.close
     (tie.spec
     (λ c. search rules)

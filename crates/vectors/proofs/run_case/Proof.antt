@@ -5,8 +5,8 @@ use borrow.Author.Rules.{rules}
 use Rattle.vectors.proofs.run_case.Statement.{statement}
 use Rattle.vectors.proofs.run_case.Tie as tie
 
-pub run-case-spec : {M : Type 1} → statement M
-run-case-spec =
+pub run_case_spec : {M : Type 1} → statement M
+run_case_spec =
     tie.close
     (tie.spec
     (λ c. search rules)

@@ -6,8 +6,8 @@ use borrow.Author.Rules.{rules}
 use Rattle.vectors.proofs.try_due.Statement.{statement}
 use Rattle.vectors.proofs.try_due.Tie as tie
 
-pub try-due-spec : {M : Type 1} → statement M
-try-due-spec =
+pub try_due_spec : {M : Type 1} → statement M
+try_due_spec =
     tie.close
     (tie.spec
     (λ c. sym (length-replicate {A = ℕ} 422402 2779096485))

@@ -5,14 +5,14 @@ use borrow.Author.Rules.{rules}
 use Rattle.vectors.proofs.compare.first_changed.Statement.{statement}
 use Rattle.vectors.proofs.compare.first_changed.Tie as tie
 
-abbrev invariant-loop : tie.invariant-loop
+abbrev invariant-loop : tie.invariant-loop-i
 invariant-loop buffer output pattern i₀ i = i ≤ length buffer
 
-abbrev decreases-loop : tie.decreases-loop
+abbrev decreases-loop : tie.decreases-loop-i
 decreases-loop buffer output pattern i₀ i = length buffer - i
 
-pub first-changed-spec : {M : Type 1} → statement M
-first-changed-spec =
+pub first_changed_spec : {M : Type 1} → statement M
+first_changed_spec =
     tie.close
     (tie.spec
     invariant-loop

@@ -4,14 +4,14 @@ use borrow.Author.Rules.{rules}
 use Rattle.vectors.proofs.compare.first_unlike.Statement.{statement}
 use Rattle.vectors.proofs.compare.first_unlike.Tie as tie
 
-abbrev invariant-loop : tie.invariant-loop
+abbrev invariant-loop : tie.invariant-loop-k
 invariant-loop a b k₀ k = k ≤ 10
 
-abbrev decreases-loop : tie.decreases-loop
+abbrev decreases-loop : tie.decreases-loop-k
 decreases-loop a b k₀ k = 10 - k
 
-pub first-unlike-spec : {M : Type 1} → statement M
-first-unlike-spec =
+pub first_unlike_spec : {M : Type 1} → statement M
+first_unlike_spec =
     tie.close
     (tie.spec
     invariant-loop

@@ -9,17 +9,17 @@ use borrow.Author.Rules.{rules}
 use Rattle.vectors.proofs.record.spread.Statement.{statement}
 use Rattle.vectors.proofs.record.spread.Tie as tie
 
-abbrev invariant-loop : tie.invariant-loop
+abbrev invariant-loop : tie.invariant-loop-i
 invariant-loop from words₀ i₀ words i = (i ≤ length words₀) × (length words ≡ length words₀)
 
-abbrev decreases-loop : tie.decreases-loop
+abbrev decreases-loop : tie.decreases-loop-i
 decreases-loop from words₀ i₀ words i = length from - i
 
-loop-again : tie.Need-loop-preserved invariant-loop decreases-loop
+loop-again : tie.Need-loop-i-preserved invariant-loop decreases-loop
 loop-again c = simp length-set (omega (arith, ltb-true))
 
-pub spread-spec : {M : Type 1} → statement M
-spread-spec =
+pub spread_spec : {M : Type 1} → statement M
+spread_spec =
     tie.close
     (tie.spec
     invariant-loop
