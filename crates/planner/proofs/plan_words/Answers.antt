@@ -32,6 +32,6 @@ returns c =
     let few : Few p = record { formed = c.requires; most = omega arith } in
     let found = not-false c.plan_around-got.result.found c.if-not-got.false in
     let best : Best (Stand p (messages p)) (messages p) 0 unplanned u = best-all few.formed (rw found at c.plan_around-got.ensures) in
-    let long : proposal_words p ≤ length u = omega (arith, best.long, few.most) in
-    rw c.proposal_words-n.ensures.0
-    (is_found _ _ _ few.most (omega arith) u (least-plan few.formed _ _ (omega (arith, best.long, long)) best) long (rw c.proposal_words-n.ensures.0 at c.copy_words.ensures))
+    let n = c.proposal_words-n.ensures.0 in
+    let long : c.proposal_words-n.result ≤ length u = omega (arith, best.long, few.most) in
+    is_found _ _ _ few.most (omega arith) u (rw n (least-plan few.formed _ _ (omega (arith, best.long, long)) best)) long c.copy_words.ensures
