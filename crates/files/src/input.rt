@@ -7,7 +7,7 @@ ghost use Rattle.io.specs.Counts.{IsPrefixLen};
 use origin::Subject;
 use problem::{HEAD_BYTES, Layout};
 use reader::answer::Read as Answer;
-use std::io::{Error, Read};
+use std::io::{Error, Read, Result};
 use std::rt::{Env, Files};
 use wordlist::hints::Hint;
 use wordlist::{hints, lines};
@@ -55,6 +55,11 @@ pub fn fail(name: &[u8], e: &Error) {
     } else {
         host::fail(name, e);
     }
+}
+
+// Opens the file of this name for reading; standard input, whose name is a dash, is open already.
+pub fn open<R: Files>(rt: &R, name: &[u8]) -> Result<R::File> {
+    host::open_read(rt, name)
 }
 
 // Whether a name is that of standard input.
@@ -138,7 +143,7 @@ fn read<R: Env + Files + Input>(rt: &R, i: usize, name: &[u8], bytes: &mut [u8])
         let mut reader = rt.reader();
         return read_open(&mut reader, name, bytes);
     }
-    match host::open_read(rt, name) {
+    match open(rt, name) {
         Ok(file) => {
             let mut file = file;
             read_open(&mut file, name, bytes)

@@ -216,7 +216,7 @@ pub fn words<R: Env + Files + Input>(rt: &R, i: usize, words: &mut [u32]) -> Tak
         let mut reader = rt.reader();
         return read_pieces(&name[..n], &mut reader, words);
     }
-    match host::open_read(rt, &name[..n]) {
+    match input::open(rt, &name[..n]) {
         Ok(file) => {
             let mut file = file;
             read_pieces(&name[..n], &mut file, words)
