@@ -3,6 +3,7 @@
 
 mod again;
 mod crowded;
+mod damaged;
 mod document_000;
 mod document_001;
 mod document_003;
@@ -11,13 +12,12 @@ mod document_01;
 mod document_02;
 mod limits;
 mod moves;
-mod places;
 
 // Document by document, and then our own.
 fn main() {
     document_01::run();
     document_02::run();
-    places::run();
+    damaged::run();
     moves::run();
     again::run();
     document_000::run();

@@ -13,7 +13,7 @@ use Rattle.losses.specs.declared.BusTime.{BusTime}
 abbrev pub reference : List ℕ → ℕ
 reference p = rows p * ref_len p
 
--- ---- used: the sum of C over all sends that start in the cycle; each is one of the first R of its message (theorem early-sends, and used-all: no other is missed)
+-- ---- used: the sum of C over all sends that start in the cycle; each is one of the first R of its message (theorem early-sends, and used_all: no other is missed)
 unfoldable pub used : List ℕ → List ℕ → ℕ
 used p w = sum (messages p) (λ j. sum (rows p) (λ n. only (ltb (send_at p w j n) (matrix p)) (lasts p j)))
 
