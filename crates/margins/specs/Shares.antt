@@ -1,5 +1,5 @@
 -- Shares of a whole, as hundredths of a per cent.
-use Rattle.std.specs.Prelude.{ℕ, ◌+◌, ◌*◌, ◌≤◌, ◌<◌, ◌≡◌}
+use Rattle.std.specs.Prelude.{ℕ, ◌+◌, ◌*◌, ◌≤◌, ◌<◌}
 use Rattle.losses.specs.declared.BusTime.{BusTime}
 
 -- all of it

@@ -1,4 +1,6 @@
 // What a plan leaves: to each message behind its wait and its frame, and of the bus. Shares are in hundredths of a per cent.
+#![tactic(auto)]
+
 ghost use Rattle.std.specs.Prelude.{◌≡◌, ◌+◌, ◌≤◌};
 ghost use Rattle.rules.specs.Problem.{lasts, period};
 ghost use Rattle.rules.specs.Parts.{Member};
