@@ -1,4 +1,6 @@
 // What a sheet calls a node, a column or a message; where there is no name, nothing is written.
+#![tactic(auto)]
+
 ghost use Rattle.std.specs.Prelude.{◌≤◌, length};
 
 use basics::{has_bit, wide};
