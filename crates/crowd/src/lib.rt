@@ -1,4 +1,6 @@
 // Why a problem has no plan: a smallest set of its messages that have none together, found by planning parts of it.
+#![tactic(auto)]
+
 ghost use Rattle.std.specs.Prelude.{◌<◌, ◌≤◌};
 ghost use Rattle.rules.specs.Problem.{WellFormed};
 ghost use Rattle.places.specs.Places.{most_planned, Few};
