@@ -167,6 +167,12 @@ pub fn right_per_cent(hundredths: usize, columns: usize) {
     text(&decimals(hundredths));
 }
 
+// Writes hundredths of a per cent as a number of per cents with two decimals.
+pub fn hundredths(n: usize) {
+    count(n / 100);
+    text(&[b'.', digit(n / 10), digit(n)]);
+}
+
 // Writes text, and the mark of a problem behind it.
 pub fn text_mark(s: &[u8], mark: u32) {
     let mut digits = [0u8; 16];
@@ -186,6 +192,14 @@ pub fn right_hex(n: usize, columns: usize) {
     let k = io::hex(n as u64, IDENTIFIER_DIGITS, &mut digits);
     pad(k, behind_prefix(columns));
     text(b"0x");
+    text(&digits[..k]);
+}
+
+// Writes text, and the hexadecimal digits of an identifier behind it.
+pub fn text_digits(s: &[u8], n: usize) {
+    let mut digits = [0u8; 16];
+    let k = io::hex(n as u64, IDENTIFIER_DIGITS, &mut digits);
+    text(s);
     text(&digits[..k]);
 }
 

@@ -22,7 +22,7 @@ use Rattle.kept.proofs.Nobody.{none_row}
 use Rattle.row_words.specs.RowWords.{SetBefore}
 use Rattle.proposal.proofs.KeptMet.{KeptClear, kept-faultless}
 use Rattle.places.proofs.Meets.{fault-own, turned, not-met}
-use Rattle.rest.specs.Part.{Part}
+use Rattle.rest.specs.Part.{Part, Numbers}
 use Rattle.rest.specs.Joined.{Joined}
 use Rattle.rest.proofs.Formed.{free-numbers, part-formed}
 use Rattle.rest.proofs.Same.{part-rows, part-repeat, own-part, part-own, meets-part, part_meets}
@@ -41,7 +41,7 @@ pub pick : List ℕ → List ℕ → ℕ → ℕ → List ℕ
 pick w m n zero = replicate (2 * n) 0
 pick w m n (suc s) = put (pick w m n s) s (column w (get_or m s 0)) (row w (get_or m s 0))
 
-pick-long : (w m : List ℕ) (n s : ℕ) → length (pick w m n s) ≡ 2 * n
+pub pick-long : (w m : List ℕ) (n s : ℕ) → length (pick w m n s) ≡ 2 * n
 unfolding pick
 pick-long w m n zero = length-replicate {A = ℕ} (2 * n) 0
 pick-long w m n (suc s) = simp length-set (pick-long w m n s)
@@ -69,25 +69,57 @@ picks w m n (suc s) h =
 pub picked : (w m : List ℕ) (n : ℕ) → Picked w m (pick w m n n) n
 picked w m n = picks w m n n (omega arith)
 
-module _ {p k t m q : List ℕ} {n : ℕ} (S : Sound p k t m n) (Q : Part p m n q) where
-  kept : KeptClear p k
-  kept = (kept-faultless p k).0 S.faultless
-
-  pub rest-formed : WellFormed q
-  rest-formed = part-formed (free-numbers S.free) S.formed (let few = S.few in omega arith) Q
-
-  one_of : (j : ℕ) → j < messages p → Member p j
-  one_of j l = member S.formed l
-
+-- ---- some messages, as they rise
+module _ {p m : List ℕ} {n : ℕ} (N : Numbers p m n) where
   -- two slots are of two messages
   two : (s u : ℕ) → s < n → u < n → (s ≡ u → ⊥) → get_or m s 0 ≡ get_or m u 0 → ⊥
   two s u ls lu ne e =
       ⊎_elim
-      (λ l. let h = S.free.rising s u l lu in omega arith)
-      (λ l. ⊎_elim (λ f. ne (sym f)) (λ g. let h = S.free.rising u s g ls in omega arith) (eq-or-lt_of_le l))
+      (λ l. let h = N.rising s u l lu in omega arith)
+      (λ l. ⊎_elim (λ f. ne (sym f)) (λ g. let h = N.rising u s g ls in omega arith) (eq-or-lt_of_le l))
       (below_or s u)
 
-  -- and none of a kept one
+  -- a slot whose message comes before is before
+  pub slot-before : (s b : ℕ) → s < n → b < n → get_or m s 0 < get_or m b 0 → s < b
+  slot-before s b ls lb l =
+      ⊎_elim
+      (λ h. h)
+      (λ h. absurd (⊎_elim (λ e. let same = ap (λ (i : ℕ). get_or m i 0) e in omega arith) (λ g. let r = N.rising b s g ls in omega arith) (eq-or-lt_of_le h)))
+      (below_or s b)
+
+  -- what has no fault has none by their slots, in the problem that they make
+  module _ {q w v : List ℕ} (Q : Part p m n q) (W : Stand p (messages p) w) (P : Picked w m v n) where
+    slot-own : (s : ℕ) → s < n → own_fault q s (column v s) (row v s) ≡ Clear
+    slot-own s ls = part-own Q s (column v s) (row v s) ls (rw (← P.columns-same s ls, ← P.rows_same s ls) (fault-own p w (get_or m s 0) (W.each _ (N.below s ls))))
+
+    pub slot-stands : Stand q (messages q) v
+    slot-stands = record {
+      each = λ s l.
+          let ls : s < n = let e = Q.count in omega arith in
+          sound-fault q v s record {
+            alone = own_alone q s (column v s) (row v s) (slot-own s ls);
+            clear = λ i li met.
+                let lower : i < n = omega arith in
+                not-met W (get_or m i 0) (get_or m s 0) (N.below i lower) (N.below s ls) (two i s lower ls (λ e. omega arith))
+                (meets-part Q lower ls (P.columns-same i lower) (P.rows_same i lower) (P.columns-same s ls) (P.rows_same s ls) (meets-is q v i s met));
+          };
+    }
+
+-- ---- those without a kept placement
+module _ {p k t m q : List ℕ} {n : ℕ} (S : Sound p k t m n) (Q : Part p m n q) where
+  kept : KeptClear p k
+  kept = (kept-faultless p k).0 S.faultless
+
+  numbers : Numbers p m n
+  numbers = free-numbers S.free
+
+  pub rest-formed : WellFormed q
+  rest-formed = part-formed numbers S.formed (let few = S.few in omega arith) Q
+
+  one_of : (j : ℕ) → j < messages p → Member p j
+  one_of j l = member S.formed l
+
+  -- no slot is of a kept message
   unlike : (j s : ℕ) → keeps k j ≡ true → s < n → j ≡ get_or m s 0 → ⊥
   unlike j s y ls e = not-both (subst (λ (i : ℕ). keeps k i ≡ true) e y) (S.free.not-kept s ls)
 
@@ -97,22 +129,6 @@ module _ {p k t m q : List ℕ} {n : ℕ} (S : Sound p k t m n) (Q : Part p m n 
 
   -- ---- from a proposal of the whole problem to its slots
   module _ {w v : List ℕ} (W : Stand p (messages p) w) (K : Keeping p k w) (P : Picked w m v n) where
-    slot-own : (s : ℕ) → s < n → own_fault q s (column v s) (row v s) ≡ Clear
-    slot-own s ls = part-own Q s (column v s) (row v s) ls (rw (← P.columns-same s ls, ← P.rows_same s ls) (fault-own p w (get_or m s 0) (W.each _ (S.free.below s ls))))
-
-    slot-stands : Stand q (messages q) v
-    slot-stands = record {
-      each = λ s l.
-          let ls : s < n = let e = Q.count in omega arith in
-          sound-fault q v s record {
-            alone = own_alone q s (column v s) (row v s) (slot-own s ls);
-            clear = λ i li met.
-                let lower : i < n = omega arith in
-                not-met W (get_or m i 0) (get_or m s 0) (S.free.below i lower) (S.free.below s ls) (two i s lower ls (λ e. omega arith))
-                (meets-part Q lower ls (P.columns-same i lower) (P.rows_same i lower) (P.columns-same s ls) (P.rows_same s ls) (meets-is q v i s met));
-          };
-    }
-
     -- a kept message has its cells in w as in k
     still : {i c : ℕ} (j : ℕ) → j < messages p → i < rows p → Here p k j i c → Here p w j i c
     still j lj li h =
@@ -130,7 +146,7 @@ module _ {p k t m q : List ℕ} {n : ℕ} (S : Sound p k t m n) (Q : Part p m n 
         (cell-meets (one_of taken.by taken.among) (one_of (get_or m s 0) (S.free.below s ls)) (still taken.by taken.among li taken.here) mine)
 
     pub suits-rest : Suiting q t v
-    suits-rest = record { stands = slot-stands; free = λ s l. slot-free s (let e = Q.count in omega arith) }
+    suits-rest = record { stands = slot-stands numbers Q W P; free = λ s l. slot-free s (let e = Q.count in omega arith) }
 
   -- ---- and back, where w joins what is kept with what suits
   module _ {u w : List ℕ} (U : Suiting q t u) (J : Joined k m n u (messages p) w) where
@@ -240,14 +256,6 @@ module _ {p k t m q : List ℕ} {n : ℕ} (S : Sound p k t m n) (Q : Part p m n 
             (P.columns-same s ls ∙ equal.0 ∙ sym (R.columns-same s ls), P.rows_same s ls ∙ equal.1 ∙ sym (R.rows_same s ls)))
             (true-or (keeps k j))
 
-    -- a slot whose message comes before is before
-    slot-before : (s b : ℕ) → s < n → b < n → get_or m s 0 < get_or m b 0 → s < b
-    slot-before s b ls lb l =
-        ⊎_elim
-        (λ h. h)
-        (λ h. absurd (⊎_elim (λ e. let same = ap (λ (i : ℕ). get_or m i 0) e in omega arith) (λ g. let r = S.free.rising b s g ls in omega arith) (eq-or-lt_of_le h)))
-        (below_or s b)
-
     pub not-after-whole : NotAfter n u v → NotAfter (messages p) w x
     not-after-whole (inl a) = inl (same-below (messages p) (omega arith) (λ s ls l. (a.columns-same s ls, a.rows_same s ls)))
     not-after-whole (inr f) =
@@ -257,7 +265,7 @@ module _ {p k t m q : List ℕ} {n : ℕ} (S : Sound p k t m n) (Q : Part p m n 
           message = get_or m b 0;
           below = S.free.below b lb;
           agree = same-below (get_or m b 0) (let l = S.free.below b lb in omega arith) (λ s ls l.
-              let g = slot-before s b ls lb l in
+              let g = slot-before numbers s b ls lb l in
               (f.agree.columns-same s g, f.agree.rows_same s g));
           before = rw (P.columns-same b lb, P.rows_same b lb, R.columns-same b lb, R.rows_same b lb) f.before;
         }

@@ -8,6 +8,7 @@ ghost use Rattle.rules.specs.Problem.{most_rows, most_columns, messages, WellFor
 ghost use Rattle.places.specs.Places.{most_planned, Few};
 ghost use Rattle.kept.specs.Kept.{put};
 ghost use Rattle.planner.specs.Search.{unplanned, From, Begun, Fitting, Suiting, Searched};
+ghost use Rattle.planner.specs.Least.{Decides};
 ghost use Rattle.planner.specs.Promise.{unready, Answered, Planning, unready_again, AnsweredAgain, Replanning};
 ghost use Rattle.planner.specs.Complete.{Sound, Completes};
 
@@ -123,6 +124,15 @@ fn plan_around(p: &[u32], taken: &[u32; words::MOST_ROWS]) -> Found
     let mut prices = [prices::FIRST_PRICE; prices::CELLS];
     let unset = [0u32; PLAN_WORDS];
     search(p, &steps, &table, &mut prices, unset, unset, false, 0)
+}
+
+// Whether a problem has a plan.
+pub fn has_plan(p: &[u32]) -> bool
+    requires { Few p.now }
+    ensures { Decides p.now result }
+{
+    let got = plan_around(p, &[0u32; words::MOST_ROWS]);
+    got.found
 }
 
 // Writes the least acceptable proposal of a problem, or says why not.

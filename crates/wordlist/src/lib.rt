@@ -96,7 +96,7 @@ fn is_blank(b: u8) -> bool {
 }
 
 // Where a text begins: behind the byte order mark of UTF-8, if it has one.
-fn front(text: &[u8]) -> usize
+pub fn front(text: &[u8]) -> usize
     ensures { result ≤ length text.now }
 {
     if text.len() < 3 {
@@ -109,7 +109,7 @@ fn front(text: &[u8]) -> usize
 }
 
 // Where the next word begins, at a place or behind it: past white space and comments. The text's end if there is none.
-fn next_word(text: &[u8], from: usize) -> usize
+pub fn next_word(text: &[u8], from: usize) -> usize
     requires { from ≤ length text.now }
     ensures { Next text.now from result }
 {

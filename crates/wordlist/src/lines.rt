@@ -54,7 +54,7 @@ pub fn line_at(text: &[u8], k: usize) -> usize {
 }
 
 // Where the line ends that has a place: behind its last byte.
-fn line_end(text: &[u8], from: usize) -> usize
+pub fn line_end(text: &[u8], from: usize) -> usize
     requires { from < length text.now }
     ensures { Ended text.now from result }
 {

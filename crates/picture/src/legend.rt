@@ -1,0 +1,165 @@
+// What stands below the bars: where the bus time goes, the load, and the colours of the nodes that send.
+ghost use Rattle.std.specs.Prelude.{◌≡◌, ◌*◌, ◌≤◌};
+ghost use Rattle.rules.specs.Problem.{WellFormed};
+ghost use Rattle.picture.specs.Drawn.{lowest};
+
+use super::layout::LEFT;
+use super::svg;
+use basics::wide;
+use losses::BusTime;
+use rules::words;
+use sheet::Kind;
+
+// How high the legend is, and where its lines stand below the bars.
+pub const HEIGHT: usize = 1900;
+
+const FIRST: usize = 300;
+
+const LINE: usize = 200;
+
+// How many figures the bus time has.
+const FIGURES: usize = 5;
+
+// Where the figures and the per cents of a line end.
+const FIGURE: usize = LEFT + 3000;
+
+const SHARE: usize = LEFT + 3650;
+
+// Where the nodes begin, how far their columns stand apart, and how many lines one has.
+const NODES: usize = LEFT + 4100;
+
+const APART: usize = 1700;
+
+const LINES: usize = 6;
+
+// How wide and how high a sample of what is drawn is, and how far above its line it begins.
+const SAMPLE: usize = 300;
+
+const SAMPLE_HEIGHT: usize = 140;
+
+const SAMPLE_ABOVE: usize = 110;
+
+// How far behind its start what it stands for is told.
+const BEHIND: usize = 380;
+
+// What the lines of the legend are, from a place on, each LINE below the one before, with a sample of how each part is drawn.
+fn names(y: usize) {
+    paper::text_count(b"<g transform=\"translate(", LEFT);
+    paper::text_count(b" ", y);
+    paper::text(
+        b")\">
+<text>bit times of a matrix cycle</text>
+<rect class='ref' y='90' width='300' height='140'/><text x='380' y='200'>reference messages</text>
+<rect class='used' y='290' width='300' height='140'/><text x='380' y='400'>used by frames</text>
+<rect class='rest' y='490' width='300' height='140'/><text x='380' y='600'>in-window: rest of used windows</text>
+<rect class='empty' y='690' width='300' height='140'/><text x='380' y='800'>empty windows</text>
+<rect class='gap' y='890' width='300' height='140'/><text x='380' y='1000'>gaps: no window</text>
+<text x='380' y='1200'>bus load: reference and used</text>
+<text x='4100'>sender</text>
+</g>
+",
+    );
+}
+
+// A number that ends a line.
+fn figure(n: usize, y: usize) {
+    svg::begin_text(b"a", FIGURE, y);
+    paper::count(n);
+    svg::end_text();
+}
+
+// Hundredths of a per cent that end a line.
+fn share(hundredths: usize, y: usize) {
+    svg::begin_text(b"a", SHARE, y);
+    paper::right_per_cent(hundredths, 0);
+    svg::end_text();
+}
+
+// The five figures, each on a line of its own.
+fn parts(figures: &[u32; FIGURES], whole: usize, y: usize)
+    requires { (1 ≤ whole) × (y ≤ 2 * lowest) }
+{
+    let mut i: usize = 0;
+    while i < FIGURES {
+        let part = wide(figures[i]);
+        let line = y + (i + 1) * LINE;
+        figure(part, line);
+        share(margins::share(part, whole), line);
+        i += 1;
+    }
+}
+
+// The same figures once more.
+fn again(t: &BusTime) -> BusTime
+    ensures { result ≡ t.now }
+{
+    BusTime {
+        reference: t.reference,
+        used: t.used,
+        in_window: t.in_window,
+        empty: t.empty,
+        gaps: t.gaps,
+    }
+}
+
+// Where the time of a matrix cycle goes, and the load of the bus.
+fn bus_time(t: BusTime, y: usize)
+    requires { (1 ≤ t.reference) × (y ≤ 2 * lowest) }
+{
+    let whole = margins::whole_of(again(&t));
+    let figures = losses::words_of(again(&t));
+    figure(whole, y);
+    parts(&figures, whole, y);
+    share(margins::load_of(t), y + (FIGURES + 1) * LINE);
+}
+
+// Whether a node sends.
+fn is_sender(p: &[u32], n: usize) -> bool
+    requires { WellFormed p.now }
+{
+    let messages = words::messages_of(p);
+    let mut j: usize = 0;
+    while j < messages {
+        if words::sender_of(p, j) == n {
+            return true;
+        }
+        j += 1;
+    }
+    false
+}
+
+// The colour of node n, which has the place k in the legend.
+fn sender(text: &[u8], n: usize, k: usize, y: usize)
+    requires { (k ≤ 16) × (110 ≤ y) × (y ≤ 2 * lowest) }
+{
+    let x = NODES + k / LINES * APART;
+    let line = y + (k % LINES + 1) * LINE;
+    svg::sender_rect(n, x, line - SAMPLE_ABOVE, SAMPLE, SAMPLE_HEIGHT);
+    svg::begin_text(b"l", x + BEHIND, line);
+    names::called(text, Kind::Node, n, b"node ");
+    svg::end_text();
+}
+
+// The colours of all nodes that send.
+fn senders(p: &[u32], text: &[u8], y: usize)
+    requires { WellFormed p.now × (110 ≤ y) × (y ≤ 2 * lowest) }
+{
+    let mut k: usize = 0;
+    let mut n: usize = 0;
+    while n < wide(words::NODES) {
+        if is_sender(p, n) {
+            sender(text, n, k, y);
+            k += 1;
+        }
+        n += 1;
+    }
+}
+
+// The legend below the bars.
+pub fn show(p: &[u32], text: &[u8], t: BusTime, bottom: usize)
+    requires { WellFormed p.now × (1 ≤ t.reference) × (bottom ≤ lowest) }
+{
+    names(bottom + FIRST);
+    bus_time(t, bottom + FIRST);
+    senders(p, text, bottom + FIRST);
+}
