@@ -785,6 +785,15 @@ echo 2 400 64 >"$scratch/short.words"
 [ "$(cat "$scratch/err")" = 'refused 1, standard input: 3 words; a problem has at least the 7 of its header' ]
 verdict 'standard input is named in a refusal'
 
+{ sleep 1 && ./ttplan plan $e/t1.words; } 2>"$scratch/err" | : >"$scratch/out"
+status=${PIPESTATUS[0]}
+[ "$status" -eq 141 ] && [ ! -s "$scratch/err" ]
+verdict 'ttplan plan whose reader is gone ends quietly'
+./ttplan plan $e/t1.words >/dev/full 2>"$scratch/err"
+status=$?
+[ "$status" -eq 2 ] && [ "$(cat "$scratch/err")" = 'ttplan: the output could not be written' ]
+verdict 'ttplan plan with standard output /dev/full says so'
+
 printf '%s\n' '-- the manual and the README'
 
 # typed FILE: all that FILE shows as typed in (indented, behind a dollar sign) answers, in a folder of its own, with the lines below it.

@@ -3,15 +3,16 @@
 # Read by tests/desk.sh, which counts.
 printf '%s\n' '-- the script around the program'
 desk=$scratch/desk kit=$scratch/kit plain=$scratch/plain built=$scratch/desk/target/bin/ttplan.built
-mkdir -p "$desk/crates/low/src" "$desk/crates/low/must-fail" "$desk/crates/ttplan/src" "$kit/bin" "$kit/on/$(uname -m)/toolchain/bin" "$plain" "$scratch/tmp"
+mkdir -p "$desk/crates/low/src" "$desk/crates/low/must-fail" "$desk/crates/ttplan/src" "$kit/bin" "$kit/path" "$plain" "$scratch/tmp"
 chmod 711 "$scratch"
 cp ttplan "$desk/ttplan"
 printf '%s\n' '# NAME: what it is built on' 'low:' 'middle: low io' 'other: low' 'ttplan: middle low # the program' >"$desk/crates.txt"
 echo one >"$desk/crates/low/src/lib.rt"
 echo one >"$desk/crates/low/must-fail/one.edit"
+echo '0: ' >"$desk/crates/ttplan/stdout"
 
 # The tools that the script takes, and no other: no rt and no emulator.
-for tool in awk cat chmod cut dirname find flock grep head mkdir mktemp readlink rm sed setsid sh sha256sum sleep sort tail uname xargs; do
+for tool in awk cat cp cut dirname find flock grep head mkdir mktemp readlink rm sed setsid sh sha256sum sleep sort tail uname xargs; do
     ln -s "$(command -v $tool)" "$plain/$tool"
 done
 
@@ -26,6 +27,7 @@ bad) echo 'ttplan: bad: No such file or directory' >&2 && exit ;;
 use | '') echo "$2" >&2 && exit ;;
 broken) echo 'loader: no library' >&2 && exit 127 ;;
 many) echo done >&2 && command -p seq 100000 && exit ;;
+deaf) echo done >&2 && trap '' PIPE && { command -p seq 100000 2>/dev/null || echo unwritten >&2; } && exit ;;
 *) echo done >&2 && [ "$2" != - ] || cat ;;
 esac
 { printf '%s\n' "$#: $*"; } 2>/dev/null || echo unwritten >&2
@@ -36,19 +38,25 @@ cat >"$kit/bin/rt" <<'END'
 #!/bin/sh
 kit=$(dirname "$(dirname "$0")")
 case $1 in
-doc) echo "$kit/docs/START-HERE.md" && exit ;;
 version) echo 'rattle-kit-0 logic 0' && exit ;;
 esac
-[ "$*" = 'check ttplan' ] && [ -f crates.txt ] || exit 2
+[ "$*" = run ] && [ -f ../../crates.txt ] && [ -f stdout ] || exit 2
 echo run >>"$kit/runs"
-echo 'rt: low proved (unchanged since it was last proved)'
+exec 3>&1 >&2
+echo 'rt: low: begins with what a check kept in another copy'
 case $(cat "$kit/mode") in
 unproved)
-    printf '%s\n' 'logic=not-proved' 'rt: middle NOT PROVED (exit 1, 3 s)' 'rt: ttplan NOT PROVED: its dependency middle is not proved' 'rt: FAILED: middle ttplan'
+    printf '%s\n' 'rt: chose --jobs 2 for middle' 'fn middle::most: proved' 'fn middle::least: not proved' 'crate middle: modules loaded=30 checked=10' 'logic=not-proved' \
+        'rattle build: nothing was built, since only a proved crate is built' 'rt: the library middle did not build, so nothing above it was checked'
+    exit 1
+    ;;
+unread)
+    printf '%s\n' 'rt: chose --jobs 2 for middle' 'rattle build: nothing was built, since only a proved crate is built' 'src/lib.rt:13:1: error[unexpected-token]: expected expression, found `}`' \
+        'rt: the library middle did not build, so nothing above it was checked'
     exit 1
     ;;
 failed)
-    echo 'rt: the kit is gone' >&2
+    echo 'rt: the kit is gone'
     exit 2
     ;;
 slow)
@@ -62,20 +70,25 @@ turn)
     until [ -e "$kit/go" ]; do sleep 0.1; done
     ;;
 esac
-echo 'rt: middle proved (3 s)'
-mkdir -p target/stamp
-if [ "$(cat target/stamp/ttplan 2>/dev/null)" != "$(cat crates/low/src/lib.rt)" ]; then
-    command -p cp "$kit/program" target/bin/ttplan
-    cat crates/low/src/lib.rt >target/stamp/ttplan
+printf '%s\n' 'rt: chose --jobs 2 for middle' 'fn middle::most: proved' 'statements core: modules loaded=161 checked=0' 'library low: modules loaded=0 checked=0' \
+    'crate middle: modules loaded=0 checked=40' 'logic=proved functions=3 sum=0 incremental=trusted'
+mkdir -p out
+if [ ! -x out/ttplan ] || [ "$(cat out/ttplan.stamp 2>/dev/null)" != "$(cat ../low/src/lib.rt)" ]; then
+    command -p cp "$kit/program" out/ttplan
+    cat ../low/src/lib.rt >out/ttplan.stamp
 fi
-printf '%s\n' 'rt: ttplan proved (1 s)' "rt: ttplan ran as nobody, and wrote what its file 'stdout' has (1 s)" 'rt: ok, 3 crates proved'
+printf '%s\n' 'rt: chose --jobs 2 for ttplan' 'fn ttplan::main: proved' 'crate ttplan: modules loaded=0 checked=37' 'axioms libc: libc::write (1 of the 128 declared)' \
+    'logic=proved functions=1 axioms=1 sum=0 incremental=trusted' 'rt: running out/ttplan; to give it other input, run that file yourself'
+[ "$(cat "$kit/mode")" != stray ] || echo stray >&3
+[ "$(cat "$kit/mode")" != fallen ] || exit 139
+exec out/ttplan >&3
 END
 
-# The emulators: the toolchain's, which is given a loader, and one that is put on the path.
-printf '%s\n' '#!/bin/sh' '[ "$2" = --library-path ] && shift 3 && exec "$@"' >"$kit/on/$(uname -m)/toolchain/bin/qemu-x86_64"
-mkdir "$kit/path"
+# The emulator that is put on the path.
 printf '%s\n' '#!/bin/sh' 'exec "$@"' >"$kit/path/qemu-x86_64"
-chmod +x "$kit/program" "$kit/bin/rt" "$kit/on/$(uname -m)/toolchain/bin/qemu-x86_64" "$kit/path/qemu-x86_64"
+chmod +x "$kit/program" "$kit/bin/rt" "$kit/path/qemu-x86_64"
+emulator='' hint=''
+[ "$(uname -m)" = x86_64 ] || emulator=:$kit/path hint=' (QEMU_LD_PREFIX must name a folder with the C library for x86-64)'
 
 # run ARGUMENTS: as before, now the copy, with this path.
 run() {
@@ -96,7 +109,7 @@ builds() {
     run show fine
     [ "$status" -eq 0 ] && [ "$(cat "$scratch/out")" = '2: show fine' ] && printf '%s\n' \
         "ttplan: proving and building the program, since $1; the first time this takes about twelve minutes" \
-        'ttplan: proved 2 of 3: middle (3 s)' 'ttplan: proved 3 of 3: ttplan (1 s)' | cmp -s - "$scratch/err" && [ -z "$(ls -A "$scratch/tmp")" ]
+        'ttplan: proved 2 of 3: middle (3 functions)' 'ttplan: proved 3 of 3: ttplan (1 function)' | cmp -s - "$scratch/err" && [ -z "$(ls -A "$scratch/tmp")" ]
     verdict "the program is built where $1"
 }
 
@@ -210,7 +223,7 @@ unwritten closed help check
 is_bad 'the program must be proved and built, since there is none, and rt is not on the path' show fine
 
 # Building.
-path=$kit/bin:$plain
+path=$kit/bin:$plain$emulator
 chmod a-w "$desk"
 nobody=''
 [ "$(id -u)" -ne 0 ] || nobody='setpriv --reuid=65534 --regid=65534 --clear-groups'
@@ -231,7 +244,7 @@ echo two >"$desk"/crates/low/src/lib.rt
 says 0 'no program that can be run, since its sources have changed: the next command proves and builds it' --version
 path=$plain
 is_bad 'since its sources have changed, and rt is not on the path' show fine
-path=$kit/bin:$plain
+path=$kit/bin:$plain$emulator
 builds 'its sources have changed'
 rm "$built"
 builds 'nothing tells what the one that is there was made of'
@@ -240,7 +253,10 @@ builds 'there is none'
 echo '# another' >>"$desk/target/bin/ttplan"
 builds 'the one that is there is not the one that was built'
 builds_not 'once it is the one that was built'
-fails_with 'middle NOT PROVED (exit 1, 3 s)' unproved 1
+fails_with 'fn middle::least: not proved' unproved 1
+fails_with 'the library middle did not build, so nothing above it was checked' unread 1
+fails_with 'the run of out/ttplan failed' fallen 139
+fails_with 'what the program wrote is not what crates/ttplan/stdout has' stray 0
 fails_with 'the kit is gone' failed 2
 ends_build INT 130
 ends_build TERM 143
@@ -261,7 +277,7 @@ wait
 verdict 'of two calls at once one builds and the other waits'
 
 # Running, with no toolchain on the path.
-path=$plain
+path=$plain$emulator
 told 0 '0: ' ''
 told 0 '3: check fine two' '' check fine two
 told 1 '2: times missed' '' times missed
@@ -277,9 +293,9 @@ done
 told 2 '' 'ttplan: bad: No such file or directory' plan bad
 told 2 '' 'ttplan: use: ttplan check FILE PROPOSAL' check use
 told 2 '' 'ttplan: use: ttplan show FILE [PROPOSAL]' show use
-told 2 '' 'ttplan: the program did not end as it should
-loader: no library' show broken
-told 2 '' 'ttplan: the program did not end as it should' show ''
+told 2 '' "ttplan: the program did not end as it should$hint
+loader: no library" show broken
+told 2 '' "ttplan: the program did not end as it should$hint" show ''
 told 0 '3: check -odd.words --help' '' check -- -odd.words --help
 told 0 '3: check -- two' '' check -- -- two
 echo given >"$scratch/given"
@@ -290,16 +306,18 @@ verdict 'ttplan show - has the standard input'
 unwritten /dev/full show fine
 unwritten /dev/full check refused
 unwritten closed show fine
-PATH=$path "$desk/ttplan" show many 2>"$scratch/err" | head -n 1 >"$scratch/out"
-status=${PIPESTATUS[0]}
-[ "$status" -eq 141 ] && [ "$(cat "$scratch/out")" = 1 ] && [ ! -s "$scratch/err" ]
-verdict 'ttplan show | head -n 1 ends quietly'
+for name in many deaf; do
+    PATH=$path "$desk/ttplan" show $name 2>"$scratch/err" | head -n 1 >"$scratch/out"
+    status=${PIPESTATUS[0]}
+    [ "$status" -eq 141 ] && [ "$(cat "$scratch/out")" = 1 ] && [ ! -s "$scratch/err" ]
+    verdict "ttplan show $name | head -n 1 ends quietly"
+done
 
 # In an unpacked archive, which has no crates and knows of no toolchain.
 mkdir -p "$scratch/archive/bin"
 cp ttplan "$scratch/archive"
 cp "$desk/target/bin/ttplan" "$scratch/archive/bin"
-grep -v '^tools ' "$built" >"$scratch/archive/bin/ttplan.built"
+cp "$built" "$scratch/archive/bin"
 desk=$scratch/archive
 path=$kit/bin:$kit/path:$plain
 acts well

@@ -1,8 +1,8 @@
 /* lists.c: reads a problem file, plans it, and prints the triggers that each node's controller is to be loaded with, node by node; nodes that
    neither send nor receive have the reference's only, and are left out. A refusal is printed by its number and place.
    Build, at the root of the repository:
-     rt staticlib ffynorwel
-     cc -std=c99 -O2 -Iinclude -o lists examples/c/lists.c target/staticlib/libffynorwel.a
+     (cd crates/ffynorwel && rt lib)
+     cc -std=c99 -O2 -Iinclude -o lists examples/c/lists.c crates/ffynorwel/out/libffynorwel.a
    cc is a C compiler for x86-64 Linux; elsewhere a cross compiler, as x86_64-linux-gnu-gcc -static. */
 #include <stdio.h>
 

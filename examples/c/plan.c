@@ -1,7 +1,7 @@
 /* plan.c: reads a problem file, plans it, and prints number and place, and the proposal: a line with column and base row for each message.
    Build, at the root of the repository:
-     rt staticlib ffynorwel
-     cc -std=c99 -O2 -Iinclude -o plan examples/c/plan.c target/staticlib/libffynorwel.a
+     (cd crates/ffynorwel && rt lib)
+     cc -std=c99 -O2 -Iinclude -o plan examples/c/plan.c crates/ffynorwel/out/libffynorwel.a
    cc is a C compiler for x86-64 Linux; elsewhere a cross compiler, as x86_64-linux-gnu-gcc -static. */
 #include <stdio.h>
 
