@@ -7,7 +7,7 @@ ghost use Rattle.io.specs.Counts.{IsPrefixLen};
 use origin::Subject;
 use problem::{HEAD_BYTES, Layout};
 use reader::answer::Read as Answer;
-use std::io::{Error, Read, Result};
+use std::io::{Error, Read};
 use std::rt::{Env, Files};
 use wordlist::hints::Hint;
 use wordlist::{hints, lines};
@@ -57,44 +57,56 @@ pub fn fail(name: &[u8], e: &Error) {
     }
 }
 
-// Opens the file of this name for reading; standard input, whose name is a dash, is open already.
-pub fn open<R: Files>(rt: &R, name: &[u8]) -> Result<R::File> {
-    host::open_read(rt, name)
-}
+// The name of standard input.
+const DASH: &[u8] = b"-";
 
 // Whether a name is that of standard input.
 pub fn is_dash(name: &[u8]) -> bool {
-    wordlist::is_same(name, b"-")
+    wordlist::is_same(name, DASH)
 }
 
-// Whether an argument is a dash.
-fn is_dash_at(rt: &impl Env, i: usize) -> bool {
+// Whether an argument is this word.
+fn is_at(rt: &impl Env, i: usize, word: &[u8]) -> bool {
     let mut name = io::buffer();
     let n = host::arg(rt, i, &mut name);
-    is_dash(&name[..n])
+    wordlist::is_same(&name[..n], word)
 }
 
-// Whether the first argument names the command that reads argument 2 last.
-fn is_extend(rt: &impl Env) -> bool {
-    let mut name = io::buffer();
-    let n = host::arg(rt, 1, &mut name);
-    wordlist::is_same(&name[..n], b"extend")
-}
-
-// Whether standard input was read before argument i is: it is read once, and closed to an argument that comes behind.
-pub fn is_spent(rt: &impl Env, i: usize) -> bool {
-    if is_extend(rt) {
-        return (i != 3) & is_dash_at(rt, 3) | (i == 2) & is_dash_at(rt, 4);
+// Whether standard input was read before argument i is: it is read once, and closed to an argument that comes behind. `extend` reads its argument 2 last.
+fn is_spent(rt: &impl Env, i: usize) -> bool {
+    if is_at(rt, 1, b"extend") {
+        return (i != 3) & is_at(rt, 3, DASH) | (i == 2) & is_at(rt, 4, DASH);
     }
-    (2 < i) & is_dash_at(rt, 2) | (3 < i) & is_dash_at(rt, 3)
+    (2 < i) & is_at(rt, 2, DASH) | (3 < i) & is_at(rt, 3, DASH)
 }
 
 // What the system says of an input that is closed.
 const CLOSED: i32 = 9;
 
-// Says that standard input was read before.
-pub fn fail_spent(name: &[u8]) {
-    fail(name, &Error::from_raw_os_error(CLOSED));
+// What there is to read under a name; where there is nothing, that has been said.
+#[derive(Drop)]
+pub enum Opened<F: Drop, I: Drop> {
+    File(F),
+    Input(I),
+    Nothing,
+}
+
+// Opens the file of this name, which argument i has, for reading; a dash is standard input.
+pub fn open<R: Env + Files + Input>(rt: &R, i: usize, name: &[u8]) -> Opened<R::File, R::Reader> {
+    if !is_dash(name) {
+        return match host::open_read(rt, name) {
+            Ok(file) => Opened::File(file),
+            Err(e) => {
+                fail(name, &e);
+                Opened::Nothing
+            }
+        };
+    }
+    if is_spent(rt, i) {
+        fail(name, &Error::from_raw_os_error(CLOSED));
+        return Opened::Nothing;
+    }
+    Opened::Input(rt.reader())
 }
 
 // What was read of a file that cannot be opened.
@@ -135,23 +147,10 @@ fn read_open<F: Read>(file: &mut F, name: &[u8], bytes: &mut [u8]) -> Taken
 fn read<R: Env + Files + Input>(rt: &R, i: usize, name: &[u8], bytes: &mut [u8]) -> Taken
     ensures { IsPrefixLen result.count bytes.new }
 {
-    if is_dash(name) {
-        if is_spent(rt, i) {
-            fail_spent(name);
-            return nothing();
-        }
-        let mut reader = rt.reader();
-        return read_open(&mut reader, name, bytes);
-    }
-    match open(rt, name) {
-        Ok(file) => {
-            let mut file = file;
-            read_open(&mut file, name, bytes)
-        }
-        Err(e) => {
-            fail(name, &e);
-            nothing()
-        }
+    match open(rt, i, name) {
+        Opened::File(mut file) => read_open(&mut file, name, bytes),
+        Opened::Input(mut reader) => read_open(&mut reader, name, bytes),
+        Opened::Nothing => nothing(),
     }
 }
 

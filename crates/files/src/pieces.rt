@@ -5,7 +5,7 @@ ghost use Rattle.io.specs.Counts.{IsPrefixLen};
 ghost use Rattle.files.specs.Reading.{Reached};
 
 use super::input;
-use super::input::{Taken, Use};
+use super::input::{Opened, Taken, Use};
 use std::io::Read;
 use std::rt::{Env, Files};
 use wordlist::lines;
@@ -208,22 +208,10 @@ pub fn words<R: Env + Files + Input>(rt: &R, i: usize, words: &mut [u32]) -> Tak
 {
     let mut name = io::buffer();
     let n = host::arg(rt, i, &mut name);
-    if input::is_dash(&name[..n]) {
-        if input::is_spent(rt, i) {
-            input::fail_spent(&name[..n]);
-            return input::nothing();
-        }
-        let mut reader = rt.reader();
-        return read_pieces(&name[..n], &mut reader, words);
-    }
-    match input::open(rt, &name[..n]) {
-        Ok(file) => {
-            let mut file = file;
-            read_pieces(&name[..n], &mut file, words)
-        }
-        Err(e) => {
-            input::fail(&name[..n], &e);
-            input::nothing()
-        }
+    let name = &name[..n];
+    match input::open(rt, i, name) {
+        Opened::File(mut file) => read_pieces(name, &mut file, words),
+        Opened::Input(mut reader) => read_pieces(name, &mut reader, words),
+        Opened::Nothing => input::nothing(),
     }
 }

@@ -37,7 +37,7 @@ pub fn argument(rt: &impl Env, i: usize, bytes: &mut [u8]) -> Result<usize>
     ensures { ReadsAtMost result bytes.new }
 {
     match rt.arg(i, bytes) {
-        Ok(n) => Ok(within(n, bytes)),
+        Ok(n) => Ok(n),
         Err(FillError::NotPresent) => Err(Error::from_raw_os_error(INVALID)),
         Err(FillError::TooLong) => Err(Error::from_raw_os_error(TOO_LONG)),
     }
@@ -51,13 +51,6 @@ pub fn arg(rt: &impl Env, i: usize, bytes: &mut [u8]) -> usize
         Ok(n) => n,
         Err(_) => 0,
     }
-}
-
-// So many bytes of a buffer, or all of them.
-fn within(n: usize, bytes: &[u8]) -> usize
-    ensures { IsPrefixLen result bytes.now }
-{
-    if n <= bytes.len() { n } else { bytes.len() }
 }
 
 // ---- files
@@ -116,9 +109,9 @@ pub fn write_all<F: Write>(file: &mut F, bytes: &[u8]) -> Result<()> {
 // The standard error.
 const STANDARD_ERROR: i32 = 2;
 
-// What the system says in the text of an error, which the library follows by the error's number in brackets.
+// What the system says in the text of an error, which the library ends with the error's number in brackets.
 fn said(text: &[u8]) -> &[u8] {
-    match text.iter().position(|b| *b == b'(') {
+    match text.iter().rposition(|b| *b == b'(') {
         Some(at) if 0 < at => &text[..at - 1],
         _ => text,
     }
@@ -132,6 +125,6 @@ pub fn fail(what: &[u8], e: &Error) {
     let bytes = text.into_inner();
     io::write_all(STANDARD_ERROR, what);
     io::write_all(STANDARD_ERROR, b": ");
-    io::write_all(STANDARD_ERROR, said(&bytes[..within(n, &bytes)]));
+    io::write_all(STANDARD_ERROR, said(&bytes[..n.min(bytes.len())]));
     io::write_all(STANDARD_ERROR, b"\n");
 }

@@ -11,7 +11,7 @@ ghost use Rattle.losses.specs.Parts.{held_by, Fits, Added, RowAdded, Tallied, lo
 use rules::words;
 
 // The five figures, in network time units.
-#[derive(Drop)]
+#[derive(Clone, Copy)]
 pub struct BusTime {
     pub reference: u32,
     pub used: u32,

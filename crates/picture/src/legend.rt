@@ -89,25 +89,12 @@ fn parts(figures: &[u32; FIGURES], whole: usize, y: usize)
     }
 }
 
-// The same figures once more.
-fn again(t: &BusTime) -> BusTime
-    ensures { result ≡ t.now }
-{
-    BusTime {
-        reference: t.reference,
-        used: t.used,
-        in_window: t.in_window,
-        empty: t.empty,
-        gaps: t.gaps,
-    }
-}
-
 // Where the time of a matrix cycle goes, and the load of the bus.
 fn bus_time(t: BusTime, y: usize)
     requires { (1 ≤ t.reference) × (y ≤ 2 * lowest) }
 {
-    let whole = margins::whole_of(again(&t));
-    let figures = losses::words_of(again(&t));
+    let whole = margins::whole_of(t);
+    let figures = losses::words_of(t);
     figure(whole, y);
     parts(&figures, whole, y);
     share(margins::load_of(t), y + (FIGURES + 1) * LINE);
