@@ -6,7 +6,6 @@ use native.Mathlib.Omega.{arith}
 use borrow.Author.Tests.{eq-eqb}
 use lib.ListN.{length, take}
 use lib.Seq.{take_at, take_all, take-take, take-length, length-take-le}
-use Rattle.rules.specs.declared.Fault.TheVariants.{Clear}
 use Rattle.rules.specs.declared.Paper.{Paper}
 use Rattle.rules.specs.declared.Refusal.TheVariants.{Log}
 use Rattle.rules.proofs.Faults.{clear_both, clear-guard}
@@ -16,18 +15,18 @@ use Rattle.proposal.specs.Accepted.{check_fault}
 use Rattle.bus_log.specs.declared.answer.Difference.{Difference}
 use Rattle.bus_log.specs.declared.answer.Held.{Held}
 use Rattle.bus_log.specs.declared.answer.Held.TheVariants.{Clean, Differs}
-use Rattle.bus_log.specs.declared.answer.Due.TheVariants.{Words}
-use Rattle.bus_log.specs.Answer.{paper_held}
 use Rattle.bus_log.specs.Span.{IsDue}
 use Rattle.bus_log.specs.Against.{Differing, Against, clean, differs}
 use Rattle.bus_log.specs.Promise.{hold_fault, Holding, DueWritten}
 use Rattle.bus_log.proofs.Determined.{due-one}
 use Rattle.bus_log.proofs.HeldLog.{log-right, pair-shared, holding-one}
 use Rattle.bus_log.proofs.Results.{Listed, written_listed, written-size}
+use Rattle.std.specs.Prelude.{Ok}
+use Rattle.rules.specs.Paper.{paper}
 
 module _ (f w log : List ℕ) (span : ℕ) where
   -- an answer that is no refusal had no fault
-  held-clear : {r : Held} → (paper_held r).number ≡ 0 → Holding f w log span r → hold_fault f w (length log) span ≡ Clear
+  held-clear : {r : Held} → (paper r).number ≡ 0 → Holding f w log span r → hold_fault f w (length log) span ≡ Ok tt
   held-clear e h = done-clear (hold_fault f w (length log) span) (sym (ap (λ (t : Paper). t.number) h.paper-is) ∙ e)
 
   pub clean-is-due : Holding f w log span Clean → IsDue (words_of f) w span log
@@ -36,11 +35,11 @@ module _ (f w log : List ℕ) (span : ℕ) where
       go : {x : List ℕ} → Against x log Clean → IsDue (words_of f) w span x → IsDue (words_of f) w span log
       go (clean e) d = rw e d
 
-  pub due-is-clean : hold_fault f w (length log) span ≡ Clear → IsDue (words_of f) w span log → Holding f w log span Clean
+  pub due-is-clean : hold_fault f w (length log) span ≡ Ok tt → IsDue (words_of f) w span log → Holding f w log span Clean
   due-is-clean fine d = record { paper-is = rw fine; due = log; due-is = λ _. d; held = λ _. clean refl }
 
   -- the theorem: where nothing is refused, the answer is clean exactly where the log is what is due
-  pub clean-exactly : {r : Held} → hold_fault f w (length log) span ≡ Clear → Holding f w log span r
+  pub clean-exactly : {r : Held} → hold_fault f w (length log) span ≡ Ok tt → Holding f w log span r
       → (r ≡ Clean → IsDue (words_of f) w span log) × (IsDue (words_of f) w span log → r ≡ Clean)
   clean-exactly fine h = (
     λ e. clean-is-due (subst (Holding f w log span) e h),
@@ -48,14 +47,14 @@ module _ (f w log : List ℕ) (span : ℕ) where
   )
 
   -- ---- against what the other call writes
-  module _ {d e : List ℕ} {n : ℕ} (h : DueWritten f w span d e (Words n)) where
+  module _ {d e : List ℕ} {n : ℕ} (h : DueWritten f w span d e (Ok n)) where
     wrote : Listed f w span d e n
     wrote = written_listed f w span d h
 
     front-is : take n e ≡ wrote.due
     front-is = ap (take n) wrote.buffer ∙ take_at wrote.due _ n (sym wrote.count)
 
-    written-fine : log ≡ take n e → hold_fault f w (length log) span ≡ Clear
+    written-fine : log ≡ take n e → hold_fault f w (length log) span ≡ Ok tt
     written-fine el =
         let long : length log ≡ n = ap length (el ∙ front-is) ∙ sym wrote.count in
         let even : length log % 2 ≡ 0 = omega (arith, long, written-size f w span d h) in

@@ -9,29 +9,25 @@ use lib.Dec.{eqb}
 use lib.ListN.{length, get_or, take}
 use lib.Seq.{take-take, take-add}
 use Rattle.basics.proofs.Tests.{or-false, within}
-use Rattle.rules.specs.declared.Fault.{Fault}
-use Rattle.rules.specs.declared.Fault.TheVariants.{Clear, Bad}
 use Rattle.rules.specs.declared.Refusal.{Refusal}
 use Rattle.rules.specs.declared.Refusal.TheVariants.{Log}
-use Rattle.rules.specs.Paper.{refused}
+use Rattle.rules.specs.Paper.{refused, Answer, paper}
 use Rattle.rules.proofs.Faults.{bad-not-clear}
 use Rattle.rules.proofs.Told.{paper-one, not_done}
-use Rattle.reader.specs.declared.answer.Read.{Read}
-use Rattle.reader.specs.declared.answer.Read.TheVariants.{Refused as Unread}
-use Rattle.reader.specs.Answer.{refusal}
 use Rattle.proposal.specs.Accept.{Admitted, Tested}
 use Rattle.reader.proofs.Decoding.{refused-is}
 use Rattle.bus_log.specs.declared.answer.Difference.{Difference}
 use Rattle.bus_log.specs.declared.answer.Held.{Held}
 use Rattle.bus_log.specs.declared.answer.Held.TheVariants.{Clean, Differs, Refused}
-use Rattle.bus_log.specs.Answer.{paper_held}
 use Rattle.bus_log.specs.Against.{pair_at, or_nothing, Differing, Against, clean, differs}
 use Rattle.bus_log.specs.Span.{most_span}
 use Rattle.bus_log.specs.Promise.{wrong_span, HeldAnswered, HoldingAccepted, hold_fault, Holding}
 use Rattle.bus_log.proofs.Determined.{due-one}
+use Rattle.std.specs.Prelude.{Err, Ok}
+use Rattle.rules.specs.Refusal.{Fault}
 
 -- ---- the answers, in their order
-held-refused : {fault : Fault} {p w log : List ℕ} {span : ℕ} (q : Refusal) → fault ≡ Bad q → HeldAnswered fault p w span log (Refused q)
+held-refused : {fault : Fault} {p w log : List ℕ} {span : ℕ} (q : Refusal) → fault ≡ Err q → HeldAnswered fault p w span log (Refused q)
 held-refused q h = record { paper-is = rw h; due = []; due-is = λ e. bad-not-clear e h; held = λ e. bad-not-clear e h }
 
 -- a log and a span that pass the test
@@ -41,7 +37,7 @@ log-right n span e =
     (eqb-true (n % 2) 0 (not-false (eqb (n % 2) 0) parts.0), within span 1 most_span parts.1)
 
 module _ (f w log : List ℕ) (span : ℕ) {b : List ℕ} where
-  pub file-refused : {g : Read} {q t : Refusal} → Tested f w b g → g ≡ Unread q → t ≡ refusal g → Holding f w log span (Refused t)
+  pub file-refused : {g : Answer} {q t : Refusal} → Tested f w b g → g ≡ Err q → t ≡ refusal g → Holding f w log span (Refused t)
   file-refused {t = t} h is t-is = held-refused t (rw (refused-is h is t-is))
 
   pub log-refused : {n : ℕ} → Admitted f w b n → not (eqb (length log % 2) 0) || wrong_span span ≡ true → Holding f w log span (Refused Log)
@@ -83,15 +79,15 @@ against-one (clean e) (differs c k) = absurd (k.unlike (ap (λ (l : List ℕ). p
 against-one (differs d h) (clean e) = absurd (h.unlike (ap (λ (l : List ℕ). pair_at l d.index) e))
 against-one (differs d h) (differs c k) = ap Differs (differing-one h k)
 
-refused-one : (q : Refusal) (r : Held) → paper_held r ≡ refused q → r ≡ Refused q
+refused-one : (q : Refusal) (r : Held) → paper r ≡ refused q → r ≡ Refused q
 refused-one q Clean e = not_done q e
 refused-one q (Differs d) e = not_done q e
-refused-one q (Refused u) e = ap Refused (let b : Bad u ≡ Bad q = paper-one (Bad u) (Bad q) e in cc)
+refused-one q (Refused u) e = ap Refused (let b : Err u ≡ Err q = paper-one (Err u) (Err q) e in cc)
 
 held_one : (fault : Fault) {p w log : List ℕ} {span : ℕ} {r s : Held} → HeldAnswered fault p w span log r → HeldAnswered fault p w span log s → r ≡ s
-held_one Clear {log = log} {s = s} h k =
+held_one (Ok tt) {log = log} {s = s} h k =
     against-one (h.held refl) (subst (λ (x : List ℕ). Against x log s) (due-one (k.due-is refl) (h.due-is refl)) (k.held refl))
-held_one (Bad q) {r = r} {s = s} h k = refused-one q r h.paper-is ∙ sym (refused-one q s k.paper-is)
+held_one (Err q) {r = r} {s = s} h k = refused-one q r h.paper-is ∙ sym (refused-one q s k.paper-is)
 
 -- the theorem: of the same file, proposal, log and span the promise allows one answer
 pub holding-one : (f w log : List ℕ) (span : ℕ) {r s : Held} → Holding f w log span r → Holding f w log span s → r ≡ s

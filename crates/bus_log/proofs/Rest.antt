@@ -12,7 +12,6 @@ use Rattle.rules.proofs.Bounds.{rows-least}
 use Rattle.proposal.specs.Accepted.{Accepted}
 use Rattle.cells.specs.Table.{Table}
 use Rattle.bus_log.specs.declared.answer.Difference.{Difference}
-use Rattle.bus_log.specs.declared.Opening.TheVariants.{Whole, Differs}
 use Rattle.bus_log.specs.Span.{IsDue, cycle_sends, most_span}
 use Rattle.bus_log.specs.Against.{Differing, nothing}
 use Rattle.bus_log.specs.Parts.{Agreeing, Begins, with_all, but-for}
@@ -23,6 +22,7 @@ use Rattle.bus_log.proofs.Later.{comes-again}
 use Rattle.bus_log.proofs.Rows.{rows-most}
 use Rattle.bus_log.proofs.Size.{due-size}
 use Rattle.bus_log.proofs.Walk.{rows-due}
+use Rattle.std.specs.Prelude.{Err, Ok}
 
 -- how far it can be compared: from the first n words on to `reach`, in whole pairs
 pub record Lengths (log : List ℕ) (n reach : ℕ) : Type 0 where
@@ -72,16 +72,16 @@ module _ {p w t : List ℕ} (a : Accepted p w) (b : Table p w (messages p) t) (s
 
   -- ---- the first matrix cycle
   module _ {log : List ℕ} where
-    pub first-differs : {d : Difference} → Begins one log (Differs d) → Differing all log d
+    pub first-differs : {d : Difference} → Begins one log (Err d) → Differing all log d
     first-differs (but-for d l h) = rw all-parts (differing-longer (run more (λ i. words_of_row p t (rows p + i))) l h)
 
-    first-size : {n : ℕ} → Begins one log (Whole n) → n ≡ length one
+    first-size : {n : ℕ} → Begins one log (Ok n) → n ≡ length one
     first-size (with_all n en e) = en
 
-    pub first-few : {n : ℕ} → Begins one log (Whole n) → n ≤ most_rows * row_most
+    pub first-few : {n : ℕ} → Begins one log (Ok n) → n ≤ most_rows * row_most
     first-few b = omega (arith, first-size b, rows-most p t (rows p) a.formed.header.columns-most, a.formed.header.rows-most)
 
-    first-same : {n : ℕ} → Begins one log (Whole n) → Same all log n
+    first-same : {n : ℕ} → Begins one log (Ok n) → Same all log n
     first-same (with_all n en e) = record {
       inside = omega (arith, ap length all-parts, length-append one (run more (λ i. words_of_row p t (rows p + i))));
       in-log = omega (arith, ap length e, length-append one (drop n log));
@@ -212,7 +212,7 @@ module _ {p w t : List ℕ} (a : Accepted p w) (b : Table p w (messages p) t) (s
 
     -- ---- the same from how the log begins
     module _
-        {n full later reach : ℕ} (first : Begins one log (Whole n)) (even : length log % 2 ≡ 0) (cycles : full ≡ n * span)
+        {n full later reach : ℕ} (first : Begins one log (Ok n)) (even : length log % 2 ≡ 0) (cycles : full ≡ n * span)
         (el : later ≡ matrix p) (er : reach ≡ min (length log) full)
       where
         full_is : full ≡ length all

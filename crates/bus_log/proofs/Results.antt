@@ -9,27 +9,19 @@ use borrow.Author.Tests.{lt-ltb, le-ltb}
 use lib.ListN.{length, take, drop}
 use Rattle.basics.specs.Runs.{run, Put}
 use Rattle.basics.proofs.Tests.{within}
-use Rattle.rules.specs.declared.Fault.{Fault}
-use Rattle.rules.specs.declared.Fault.TheVariants.{Clear, Bad}
 use Rattle.rules.specs.declared.Refusal.{Refusal}
 use Rattle.rules.specs.declared.Refusal.TheVariants.{Room, Log}
-use Rattle.rules.specs.Paper.{Answers}
+use Rattle.rules.specs.Paper.{Answers, Answer, count_of, paper}
 use Rattle.rules.specs.Problem.{rows, messages}
-use Rattle.rules.specs.Refusal.{guard}
+use Rattle.rules.specs.Refusal.{guard, Fault}
 use Rattle.rules.proofs.Faults.{bad-not-clear, clear_both, clear-guard}
 use Rattle.rules.proofs.Told.{Told, answered, refusing, answers-refused, answers-done, answers_one, answers-clear}
 use Rattle.problem.specs.File.{words_of}
-use Rattle.reader.specs.declared.answer.Read.{Read}
-use Rattle.reader.specs.declared.answer.Read.TheVariants.{Refused as Unread}
-use Rattle.reader.specs.Answer.{refusal}
 use Rattle.proposal.specs.Accepted.{check_fault, Accepted}
 use Rattle.proposal.specs.Accept.{Admitted, Tested}
 use Rattle.reader.proofs.Decoding.{refused-is}
 use Rattle.proposal.proofs.Accepting.{clear-accepted}
 use Rattle.cells.specs.Table.{Table}
-use Rattle.bus_log.specs.declared.answer.Due.{Due}
-use Rattle.bus_log.specs.declared.answer.Due.TheVariants.{Words, Refused}
-use Rattle.bus_log.specs.Answer.{paper, count_of}
 use Rattle.bus_log.specs.Span.{IsDue, cycle_sends, size, most_span}
 use Rattle.bus_log.specs.Rows.{words_of_row}
 use Rattle.bus_log.specs.Promise.{wrong_span, DueAnswered, DueAccepted, due_fault, DueWritten}
@@ -37,21 +29,22 @@ use Rattle.bus_log.proofs.Counts.{sends-most}
 use Rattle.bus_log.proofs.Determined.{due-one}
 use Rattle.bus_log.proofs.Size.{due-size}
 use Rattle.bus_log.proofs.Walk.{rows-due}
+use Rattle.std.specs.Prelude.{Err, Ok}
 
 -- ---- what is due is written, or refused
-due-refused : {fault : Fault} {p w d : List ℕ} {span : ℕ} (q : Refusal) → fault ≡ Bad q → DueAnswered fault p w span d d (Refused q)
+due-refused : {fault : Fault} {p w d : List ℕ} {span : ℕ} (q : Refusal) → fault ≡ Err q → DueAnswered fault p w span d d (Err q)
 due-refused q h = record { due = []; due-is = λ e. bad-not-clear e h; answers = answers-refused q refl refl h }
 
 -- for an accepted proposal: n is how many sends start in a matrix cycle
 module _ {p w : List ℕ} (a : Accepted p w) (span : ℕ) (d : List ℕ) {n : ℕ} (en : n ≡ cycle_sends p) where
-  pub room-refused : length d < 2 * (n * span) → DueAccepted p w span d d (Refused Room)
+  pub room-refused : length d < 2 * (n * span) → DueAccepted p w span d d (Err Room)
   room-refused l = due-refused Room (rw (lt-ltb (length d) (size p span) (rw (← en) l)))
 
   module _ {t : List ℕ} (b : Table p w (messages p) t) (room : 2 * (n * span) ≤ length d) where
     pub rows_fit : {m : ℕ} → m ≡ rows p → length (run (span * m) (words_of_row p t)) ≤ length d
     rows_fit em = rw (em, due-size a span (rows-due a b span), ← en) room
 
-    pub rows_written : {m : ℕ} {e : List ℕ} {r : ℕ} → m ≡ rows p → Put (run (span * m) (words_of_row p t)) d e r → DueAccepted p w span d e (Words r)
+    pub rows_written : {m : ℕ} {e : List ℕ} {r : ℕ} → m ≡ rows p → Put (run (span * m) (words_of_row p t)) d e r → DueAccepted p w span d e (Ok r)
     rows_written {m} em h = record {
       due = run (span * m) (words_of_row p t);
       due-is = λ _. rw em (rows-due a b span);
@@ -60,42 +53,42 @@ module _ {p w : List ℕ} (a : Accepted p w) (span : ℕ) (d : List ℕ) {n : �
 
 -- the call: file or proposal are refused, or the span, or else it is as for an accepted proposal
 module _ (f w : List ℕ) (span : ℕ) (d : List ℕ) {b : List ℕ} where
-  pub due-file-refused : {g : Read} {q t : Refusal} → Tested f w b g → g ≡ Unread q → t ≡ refusal g → DueWritten f w span d d (Refused t)
+  pub due-file-refused : {g : Answer} {q t : Refusal} → Tested f w b g → g ≡ Err q → t ≡ refusal g → DueWritten f w span d d (Err t)
   due-file-refused {t = t} h is t-is = due-refused t (rw (refused-is h is t-is))
 
-  pub due-span-refused : {n : ℕ} → Admitted f w b n → wrong_span span ≡ true → DueWritten f w span d d (Refused Log)
+  pub due-span-refused : {n : ℕ} → Admitted f w b n → wrong_span span ≡ true → DueWritten f w span d d (Err Log)
   due-span-refused a o = due-refused Log (rw (a.clear, o))
 
-  pub due-span-accepted : {n s : ℕ} {e : List ℕ} {r : Due} → Admitted f w b n → wrong_span span ≡ false → s ≡ span → DueAccepted (take n b) w s d e r → DueWritten f w span d e r
+  pub due-span-accepted : {n s : ℕ} {e : List ℕ} {r : Answer} → Admitted f w b n → wrong_span span ≡ false → s ≡ span → DueAccepted (take n b) w s d e r → DueWritten f w span d e r
   due-span-accepted a o es h = rw (a.clear, o, ← a.front, ← es) h
 
 -- ---- two results of the list
-told : (r : Due) → Told Words Refused r (paper r) (count_of r)
-told (Words n) = answered n
-told (Refused q) = refusing q 0
+told : (r : Answer) → Told Ok Err r (paper r) (count_of r)
+told (Ok n) = answered n
+told (Err q) = refusing q 0
 
 -- where there is no fault, the words are the same; a fault leaves nothing of them to tell
-written_one : (fault : Fault) {p w d e g : List ℕ} {span : ℕ} {r s : Due} → DueAnswered fault p w span d e r → DueAnswered fault p w span d g s → (r ≡ s) × (e ≡ g)
-written_one Clear {d = d} {g = g} {s = s} h k =
-    answers_one told h.answers (subst (λ (x : List ℕ). Answers paper count_of Clear x d g s) (due-one (k.due-is refl) (h.due-is refl)) k.answers)
-written_one (Bad q) h k =
+written_one : (fault : Fault) {p w d e g : List ℕ} {span : ℕ} {r s : Answer} → DueAnswered fault p w span d e r → DueAnswered fault p w span d g s → (r ≡ s) × (e ≡ g)
+written_one (Ok tt) {d = d} {g = g} {s = s} h k =
+    answers_one told h.answers (subst (λ (x : List ℕ). Answers (Ok tt) x d g s) (due-one (k.due-is refl) (h.due-is refl)) k.answers)
+written_one (Err q) h k =
     answers_one told h.answers record { paper-is = k.answers.paper-is; count-is = k.answers.count-is; buffer-is = k.answers.buffer-is }
 
 -- the theorem: of the same file, proposal, span and buffer the promise allows one answer, and one buffer behind it
-pub due-written-one : (f w : List ℕ) (span : ℕ) (d : List ℕ) {e g : List ℕ} {r s : Due} → DueWritten f w span d e r → DueWritten f w span d g s → (r ≡ s) × (e ≡ g)
+pub due-written-one : (f w : List ℕ) (span : ℕ) (d : List ℕ) {e g : List ℕ} {r s : Answer} → DueWritten f w span d e r → DueWritten f w span d g s → (r ≡ s) × (e ≡ g)
 due-written-one f w span d h k = written_one (due_fault f w span (length d)) h k
 
 -- ---- how many words
 -- a list that was written is what is due, of an accepted proposal and a right span
 pub record Listed (f w : List ℕ) (span : ℕ) (d e : List ℕ) (n : ℕ) : Type 0 where
-  pub admitted : check_fault f w ≡ Clear
+  pub admitted : check_fault f w ≡ Ok tt
   pub span_right : wrong_span span ≡ false
   pub due : List ℕ
   pub due-is : IsDue (words_of f) w span due
   pub count : n ≡ length due
   pub buffer : e ≡ due ++ drop n d
 
-pub written_listed : (f w : List ℕ) (span : ℕ) (d : List ℕ) {e : List ℕ} {n : ℕ} → DueWritten f w span d e (Words n) → Listed f w span d e n
+pub written_listed : (f w : List ℕ) (span : ℕ) (d : List ℕ) {e : List ℕ} {n : ℕ} → DueWritten f w span d e (Ok n) → Listed f w span d e n
 written_listed f w span d h =
     let wrote = answers-clear refl refl h.answers in
     let parts = clear_both (check_fault f w) _ wrote.0 in
@@ -109,11 +102,11 @@ written_listed f w span d h =
     }
 
 -- they are so many as the rule says, and few
-pub written-size : (f w : List ℕ) (span : ℕ) (d : List ℕ) {e : List ℕ} {n : ℕ} → DueWritten f w span d e (Words n) → n ≡ size (words_of f) span
+pub written-size : (f w : List ℕ) (span : ℕ) (d : List ℕ) {e : List ℕ} {n : ℕ} → DueWritten f w span d e (Ok n) → n ≡ size (words_of f) span
 written-size f w span d h =
     let wrote = written_listed f w span d h in wrote.count ∙ due-size (clear-accepted f w wrote.admitted) span wrote.due-is
 
-pub due-small : (f : List ℕ) {w d e : List ℕ} {span n : ℕ} → DueWritten f w span d e (Words n) → n < 4294967296
+pub due-small : (f : List ℕ) {w d e : List ℕ} {span n : ℕ} → DueWritten f w span d e (Ok n) → n < 4294967296
 due-small f {w} {d} {span = span} h =
     let wrote = written_listed f w span d h in
     let fine = clear-accepted f w wrote.admitted in

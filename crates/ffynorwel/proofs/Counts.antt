@@ -5,10 +5,8 @@ use mathlib.Core.List.{List}
 use native.Mathlib.Nat.{mul-le-mul}
 use native.Mathlib.Omega.{arith}
 use lib.ListN.{length}
-use Rattle.rules.specs.Paper.{Answers}
+use Rattle.rules.specs.Paper.{Answers, Answer, count_of, paper}
 use Rattle.rules.specs.Problem.{columns, messages, WellFormed}
-use Rattle.rules.specs.declared.Fault.{Fault}
-use Rattle.rules.specs.declared.Fault.TheVariants.{Clear, Bad}
 use Rattle.rules.proofs.Faults.{clear_both}
 use Rattle.rules.proofs.Told.{answers-clear}
 use Rattle.problem.proofs.File.{length-file}
@@ -20,35 +18,22 @@ use Rattle.problem.specs.File.{layout_in, words_of, file_of}
 use Rattle.problem.specs.Callers.{column_words, layout_by}
 use Rattle.problem.proofs.Layouts.{column-size-most, message-size-most, column-words-are}
 use Rattle.problem.proofs.Callers.{recast-length, given-formed}
-use Rattle.reader.specs.declared.answer.Read.{Read}
-use Rattle.reader.specs.declared.answer.Read.TheVariants.{Problem}
-use Rattle.reader.specs.Answer as of_reader
 use Rattle.reader.specs.Promise.{Reading}
-use Rattle.writer.specs.declared.Written.{Written}
-use Rattle.writer.specs.declared.Written.TheVariants.{File}
-use Rattle.writer.specs.Answer as of_writer
 use Rattle.writer.specs.Promise.{Writing}
 use Rattle.proposal.proofs.Accepting.{clear-accepted}
-use Rattle.triggers.specs.declared.Listed.{Listed}
-use Rattle.triggers.specs.declared.Listed.TheVariants.{Lists}
-use Rattle.triggers.specs.Answer as of_triggers
 use Rattle.triggers.specs.Promise.{Listing}
 use Rattle.triggers.proofs.Answering.{size-most, lists-size}
-use Rattle.bus_log.specs.declared.answer.Due.{Due}
-use Rattle.bus_log.specs.declared.answer.Due.TheVariants.{Words}
 use Rattle.bus_log.specs.Promise.{DueWritten}
 use Rattle.bus_log.proofs.Results.{due-small}
-use Rattle.planner.specs.declared.answer.Planned.{Planned}
-use Rattle.planner.specs.Answer as of_planner
 use Rattle.planner.specs.Least.{Plan}
 use Rattle.planner.specs.Promise.{Chosen, refused, none, planned, Planning, Replanning}
-use Rattle.versions.specs.declared.Moved.{Moved}
-use Rattle.versions.specs.Answer as of_versions
 use Rattle.versions.specs.Promise.{Raising, Lowering}
+use Rattle.std.specs.Prelude.{Err, Ok}
+use Rattle.rules.specs.Refusal.{Fault}
 
-pub read_fits : (f : List ℕ) {d e : List ℕ} {r : Read} {n : ℕ} → Reading f d e r → r ≡ Problem n → n < 4294967296
+pub read_fits : (f : List ℕ) {d e : List ℕ} {r : Answer} {n : ℕ} → Reading f d e r → r ≡ Ok n → n < 4294967296
 read_fits f h is =
-    let wrote = answers-clear (ap of_reader.paper is) (ap of_reader.count_of is) h in
+    let wrote = answers-clear (ap paper is) (ap count_of is) h in
     let formed = file-formed f (clear_both _ _ wrote.0).0 in
     let most = (column-words-are (layout_in f)).1 in
     let few : column_words (layout_in f) * columns (words_of f) ≤ 3 * 32 = mul-le-mul most formed.header.columns-most in
@@ -61,33 +46,33 @@ file-small L {p} formed =
     let ms : message_size L * messages p ≤ 20 * 64 = mul-le-mul (message-size-most L) formed.header.messages-most in
     omega (arith, length-file L p, cs, ms)
 
-pub write-fits : (w : List ℕ) {d e : List ℕ} {r : Written} {n : ℕ} → Writing w d e r → r ≡ File n → n < 4294967296
+pub write-fits : (w : List ℕ) {d e : List ℕ} {r : Answer} {n : ℕ} → Writing w d e r → r ≡ Ok n → n < 4294967296
 write-fits w h is =
-    let wrote = answers-clear (ap of_writer.paper is) (ap of_writer.count_of is) h in
+    let wrote = answers-clear (ap paper is) (ap count_of is) h in
     omega (arith, file-small (layout_by w) (given-formed w (clear_both _ _ wrote.0).0).0, wrote.1)
 
 -- a count is that of the output, or 0
-counted-fits : {x : Fault} {w d e : List ℕ} {r : Moved} → (x ≡ Clear → length w < 4294967296) → Answers of_versions.paper of_versions.count_of x w d e r → of_versions.count_of r < 4294967296
-counted-fits {x = Clear} small h = omega (arith, h.count-is, small refl)
-counted-fits {x = Bad q} small h = omega (arith, h.count-is)
+counted-fits : {x : Fault} {w d e : List ℕ} {r : Answer} → (x ≡ Ok tt → length w < 4294967296) → Answers x w d e r → count_of r < 4294967296
+counted-fits {x = Ok tt} small h = omega (arith, h.count-is, small refl)
+counted-fits {x = Err q} small h = omega (arith, h.count-is)
 
-pub up_fits : (f : List ℕ) {d e : List ℕ} {r : Moved} → Raising f d e r → of_versions.count_of r < 4294967296
+pub up_fits : (f : List ℕ) {d e : List ℕ} {r : Answer} → Raising f d e r → count_of r < 4294967296
 up_fits f h = counted-fits (λ c. file-small Two (file-formed f (clear_both _ _ (clear_both _ _ c).0).0)) h
 
-pub back_fits : (f : List ℕ) {d e : List ℕ} {r : Moved} → Lowering f d e r → of_versions.count_of r < 4294967296
+pub back_fits : (f : List ℕ) {d e : List ℕ} {r : Answer} → Lowering f d e r → count_of r < 4294967296
 back_fits f h = counted-fits (λ c. file-small One (file-formed f (clear_both _ _ (clear_both _ _ c).0).0)) h
 
-pub lists-fits : (f : List ℕ) {w d e : List ℕ} {r : Listed} {n : ℕ} → Listing f w d e r → r ≡ Lists n → n < 4294967296
+pub lists-fits : (f : List ℕ) {w d e : List ℕ} {r : Answer} {n : ℕ} → Listing f w d e r → r ≡ Ok n → n < 4294967296
 lists-fits f h is =
-    let wrote = answers-clear (ap of_triggers.paper is) (ap of_triggers.count_of is) h.answers in
+    let wrote = answers-clear (ap paper is) (ap count_of is) h.answers in
     let fine = clear-accepted f _ (clear_both _ _ wrote.0).0 in
     omega (arith, size-most fine.formed, lists-size fine (h.lists-are wrote.0), wrote.1)
 
-pub due-fits : (f : List ℕ) {w d e : List ℕ} {span : ℕ} {r : Due} {n : ℕ} → DueWritten f w span d e r → r ≡ Words n → n < 4294967296
+pub due-fits : (f : List ℕ) {w d e : List ℕ} {span : ℕ} {r : Answer} {n : ℕ} → DueWritten f w span d e r → r ≡ Ok n → n < 4294967296
 due-fits f {w} {d} {e} {span} h is = due-small f (subst (DueWritten f w span d e) is h)
 
 -- the proposals that are sought are short
-chosen-fits : {A : List ℕ → Type 0} {m : ℕ} {x : Fault} {d e : List ℕ} {r : Planned} → (x ≡ Clear → (w : List ℕ) → A w → length w < 4294967296) → Chosen A m x d e r → of_planner.count_of r < 4294967296
+chosen-fits : {A : List ℕ → Type 0} {m : ℕ} {x : Fault} {d e : List ℕ} {r : Answer} → (x ≡ Ok tt → (w : List ℕ) → A w → length w < 4294967296) → Chosen A m x d e r → count_of r < 4294967296
 chosen-fits small (refused q b a) = omega (arith, a.count-is)
 chosen-fits small (none c nothing a) = omega (arith, a.count-is)
 chosen-fits small (planned c w least a) = omega (arith, a.count-is, small c w least.plan)
@@ -96,8 +81,8 @@ chosen-fits small (planned c w least a) = omega (arith, a.count-is, small c w le
 plan-small : {p w : List ℕ} → WellFormed p → Plan p w → length w < 4294967296
 plan-small formed h = omega (arith, formed.header, h.in-range.words)
 
-pub plan-fits : (f : List ℕ) {d e : List ℕ} {r : Planned} → Planning f d e r → of_planner.count_of r < 4294967296
+pub plan-fits : (f : List ℕ) {d e : List ℕ} {r : Answer} → Planning f d e r → count_of r < 4294967296
 plan-fits f h = chosen-fits (λ c w v. plan-small (file-formed f (clear_both _ _ c).0) v) h.answered
 
-pub replan-fits : (f : List ℕ) {k d e : List ℕ} {r : Planned} → Replanning f k d e r → of_planner.count_of r < 4294967296
+pub replan-fits : (f : List ℕ) {k d e : List ℕ} {r : Answer} → Replanning f k d e r → count_of r < 4294967296
 replan-fits f h = chosen-fits (λ c w v. plan-small (file-formed f (clear_both _ _ c).0) v.plan) h.answered

@@ -5,7 +5,6 @@ use mathlib.Core.List.{List}
 use native.Mathlib.Omega.{arith}
 use lib.ListN.{take}
 use Rattle.rules.specs.declared.Refusal.{Refusal}
-use Rattle.rules.specs.declared.Fault.TheVariants.{Clear, Bad}
 use Rattle.rules.specs.declared.Paper.{Paper}
 use Rattle.rules.specs.Problem.{matrix}
 use Rattle.rules.proofs.Exact.{exact}
@@ -19,13 +18,12 @@ use Rattle.proposal.proofs.Accepting.{clear-accepted}
 use Rattle.losses.specs.declared.BusTime.{BusTime}
 use Rattle.losses.specs.Losses.{FiguresAre}
 use Rattle.losses.proofs.Five.{figures-one, figures-sum, reference-some}
-use Rattle.judge.specs.declared.answer.Judged.{Judged}
-use Rattle.judge.specs.declared.answer.Judged.TheVariants.{Accepted, Refused}
 use Rattle.judge.specs.Answer.{paper, figures}
 use Rattle.judge.specs.Promise.{Judging}
+use Rattle.std.specs.Prelude.{Err, Ok, Result}
 
 -- a refusal, of the file or of the proposal
-pub judging-refused : {f w : List ℕ} {q : Refusal} → check_fault f w ≡ Bad q → Judging f w (Refused q)
+pub judging-refused : {f w : List ℕ} {q : Refusal} → check_fault f w ≡ Err q → Judging f w (Err q)
 judging-refused {f} {w} {q} h =
     record {
       paper-is = rw h;
@@ -38,7 +36,7 @@ judging-refused {f} {w} {q} h =
     }
 
 -- the figures of the words that were read
-pub judging-accepted : {f w e : List ℕ} {n : ℕ} {t : BusTime} → Admitted f w e n → FiguresAre Clear (take n e) w t → Judging f w (Accepted t)
+pub judging-accepted : {f w e : List ℕ} {n : ℕ} {t : BusTime} → Admitted f w e n → FiguresAre (Ok tt) (take n e) w t → Judging f w (Ok t)
 judging-accepted {f} {w} a g =
     let parts = clear_both _ _ a.clear in
     record {
@@ -48,23 +46,23 @@ judging-accepted {f} {w} a g =
     }
 
 -- number, places and figures settle the answer
-told : (r : Judged) → Told Accepted Refused r (paper r) (figures r)
-told (Accepted t) = answered t
-told (Refused q) = refusing q _
+told : (r : (Result BusTime Refusal)) → Told Ok Err r (paper r) (figures r)
+told (Ok t) = answered t
+told (Err q) = refusing q _
 
 -- two answers that the promise allows are equal
-pub judging-one : {f w : List ℕ} {r s : Judged} → Judging f w r → Judging f w s → r ≡ s
+pub judging-one : {f w : List ℕ} {r s : (Result BusTime Refusal)} → Judging f w r → Judging f w s → r ≡ s
 judging-one {r = r} {s = s} a b = told-one (told r) (told s) (a.paper-is ∙ sym b.paper-is) (figures-one a.figures-are b.figures-are)
 
 -- ---- what is accepted
-module _ {f w : List ℕ} {t : BusTime} (h : Judging f w (Accepted t)) where
-  clear : check_fault f w ≡ Clear
+module _ {f w : List ℕ} {t : BusTime} (h : Judging f w (Ok t)) where
+  clear : check_fault f w ≡ Ok tt
   clear = done-clear (check_fault f w) (ap (λ (x : Paper). x.number) (sym h.paper-is))
 
   faultless : Faultless (words_of f) w
   faultless = clear-accepted f w clear
 
-  figures-of : FiguresAre Clear (words_of f) w t
+  figures-of : FiguresAre (Ok tt) (words_of f) w t
   figures-of = rw clear at h.figures-are
 
   -- has figures that sum to the matrix cycle

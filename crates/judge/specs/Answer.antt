@@ -2,14 +2,14 @@
 use Rattle.rules.specs.declared.Paper.{Paper}
 use Rattle.rules.specs.Paper.{done, refused}
 use Rattle.losses.specs.declared.BusTime.{BusTime}
-use Rattle.judge.specs.declared.answer.Judged.{Judged}
-use Rattle.judge.specs.declared.answer.Judged.TheVariants.{Accepted, Refused}
+use Rattle.std.specs.Prelude.{Err, Ok, Result}
+use Rattle.rules.specs.declared.Refusal.{Refusal}
 
-abbrev pub paper : Judged → Paper
-paper (Accepted t) = done
-paper (Refused q) = refused q
+abbrev pub paper : (Result BusTime Refusal) → Paper
+paper (Ok t) = done
+paper (Err q) = refused q
 
 -- those of a refusal are 0
-abbrev pub figures : Judged → BusTime
-figures (Accepted t) = t
-figures (Refused q) = record { reference = 0; used = 0; in_window = 0; empty = 0; gaps = 0 }
+abbrev pub figures : (Result BusTime Refusal) → BusTime
+figures (Ok t) = t
+figures (Err q) = record { reference = 0; used = 0; in_window = 0; empty = 0; gaps = 0 }

@@ -4,14 +4,14 @@ use mathlib.Core.Path.{◌≡◌, sym, ◌∙◌}
 use mathlib.Core.List.{List}
 use native.Mathlib.Nat.{mul-le-mul}
 use native.Mathlib.Omega.{arith}
-use Rattle.rules.specs.declared.Fault.{Fault}
-use Rattle.rules.specs.declared.Fault.TheVariants.{Clear}
 use Rattle.rules.specs.Problem.{matrix, WellFormed}
 use Rattle.rules.proofs.Bounds.{rows-least}
 use Rattle.proposal.specs.Accepted.{Accepted}
 use Rattle.losses.specs.declared.BusTime.{BusTime}
 use Rattle.losses.specs.Losses.{FiguresAre}
 use Rattle.losses.proofs.Sum.{losses-sum}
+use Rattle.std.specs.Prelude.{Ok}
+use Rattle.rules.specs.Refusal.{Fault}
 
 -- two that the rules allow are equal
 pub figures-one : {x : Fault} {p w : List ℕ} {s t : BusTime} → FiguresAre x p w s → FiguresAre x p w t → s ≡ t
@@ -24,9 +24,9 @@ figures-one a b =
       gaps = (a.gaps-is ∙ sym b.gaps-is) i;
     }
 
-pub figures-sum : {p w : List ℕ} {t : BusTime} → Accepted p w → FiguresAre Clear p w t → t.reference + t.used + t.in_window + t.empty + t.gaps ≡ matrix p
+pub figures-sum : {p w : List ℕ} {t : BusTime} → Accepted p w → FiguresAre (Ok tt) p w t → t.reference + t.used + t.in_window + t.empty + t.gaps ≡ matrix p
 figures-sum a g = omega (arith, losses-sum a, g.reference-is, g.used-is, g.in-window-is, g.empty-is, g.gaps-is)
 
 -- the reference takes some of it
-pub reference-some : {p w : List ℕ} {t : BusTime} → WellFormed p → FiguresAre Clear p w t → 1 ≤ t.reference
+pub reference-some : {p w : List ℕ} {t : BusTime} → WellFormed p → FiguresAre (Ok tt) p w t → 1 ≤ t.reference
 reference-some wf g = omega (arith, g.reference-is, mul-le-mul {n₁ = 1} {m₁ = 65} (rows-least wf) wf.header.reference-least)

@@ -13,8 +13,7 @@ use Rattle.proposal.specs.Accepted.{Accepted}
 use Rattle.cells.specs.Table.{number_in, Table}
 use Rattle.cells.proofs.Owners.{number-most, holder}
 use Rattle.losses.specs.declared.Tally.{Tally}
-use Rattle.losses.specs.Parts.{held_by, Fits, Part, used-part, window-part, empty-part, part, share, row_share, Added, RowAdded, Tallied}
-use Rattle.losses.specs.Parts.{longest, row_most, cells_most, Small}
+use Rattle.losses.specs.Parts.{held_by, Fits, Part, used-part, window-part, empty-part, part, share, row_share, Added, RowAdded, Tallied, longest, row_most, cells_most, Small}
 use Rattle.losses.proofs.Terms.{over-same}
 use Rattle.losses.proofs.Cells.{cell-is}
 use Rattle.losses.proofs.Sum.{figure, figure-cells}

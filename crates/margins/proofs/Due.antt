@@ -5,7 +5,6 @@ use mathlib.Core.List.{List}
 use native.Mathlib.Omega.{arith}
 use Rattle.rules.specs.Problem.{WellFormed, InRange, Gives, cycle, messages, start, period, offset, deadline, lasts, column, row}
 use Rattle.rules.specs.Sends.{send_at, release, Serves, Acceptable}
-use Rattle.rules.specs.declared.Fault.TheVariants.{Clear}
 use Rattle.rules.specs.Tests.{wait, own_fault, proposal_fault}
 use Rattle.rules.proofs.Digits.{Phase, phase, only}
 use Rattle.rules.proofs.Meaning.{alone-own, faultless}
@@ -13,6 +12,7 @@ use Rattle.rules.proofs.Slots.{Slot, slot}
 use Rattle.rules.proofs.Exact.{exact}
 use Rattle.margins.specs.declared.Margin.{Margin}
 use Rattle.margins.specs.Margins.{Leaves, MarginOf}
+use Rattle.std.specs.Prelude.{Ok}
 
 module _ (p w : List ℕ) (j : ℕ) (s : Slot p w j) where
   -- the wait is that from a release to a send
@@ -30,7 +30,7 @@ module _ (p w : List ℕ) (j : ℕ) (s : Slot p w j) where
       omega (arith, waiting.is, ap (◌* period p j) e)
 
 -- nothing is wrong with a message of a proposal without a fault
-own : (p w : List ℕ) → proposal_fault p w ≡ Clear → (j : ℕ) → j < messages p → own_fault p j (column w j) (row w j) ≡ Clear
+own : (p w : List ℕ) → proposal_fault p w ≡ Ok tt → (j : ℕ) → j < messages p → own_fault p j (column w j) (row w j) ≡ Ok tt
 own p w e j l = alone-own p j (column w j) (row w j) (((faultless p w).0 e).each j l).alone
 
 -- with the margin that margin_of hands back

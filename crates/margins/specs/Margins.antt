@@ -1,6 +1,5 @@
 -- What a plan leaves to a message of its deadline.
-use Rattle.std.specs.Prelude.{ℕ, ◌+◌, ◌≡◌, List}
-use Rattle.rules.specs.declared.Fault.TheVariants.{Clear}
+use Rattle.std.specs.Prelude.{ℕ, ◌+◌, ◌≡◌, List, Ok}
 use Rattle.rules.specs.Problem.{lasts, deadline, Gives, column, row}
 use Rattle.rules.specs.Tests.{wait, own_fault}
 use Rattle.margins.specs.declared.Margin.{Margin}
@@ -18,8 +17,8 @@ pub record Nothing (m : Margin) : Type 0 where
 
 -- the first where nothing is wrong with message j there by itself, the second elsewhere
 pub record MarginAt (p : List ℕ) (j c r : ℕ) (m : Margin) : Type 0 where
-  pub can : own_fault p j c r ≡ Clear → Leaves p j c r m
-  pub cannot : ¬ (own_fault p j c r ≡ Clear) → Nothing m
+  pub can : own_fault p j c r ≡ Ok tt → Leaves p j c r m
+  pub cannot : ¬ (own_fault p j c r ≡ Ok tt) → Nothing m
 
 -- the same where the proposal w places it, and the second if w has no words of it
 pub record MarginOf (p w : List ℕ) (j : ℕ) (m : Margin) : Type 0 where

@@ -6,7 +6,6 @@ use mathlib.Core.Logic.{⊎_elim}
 use native.Mathlib.Nat.{min_comm, mod-add-div'}
 use native.Mathlib.Omega.{arith}
 use Rattle.basics.proofs.Tests.{below_or}
-use Rattle.rules.specs.declared.Fault.TheVariants.{Clear}
 use Rattle.rules.specs.Problem.{most_columns, messages, repeat, column, row, Placed}
 use Rattle.rules.specs.Tests.{common, own_fault, fault, Stand}
 use Rattle.rules.specs.Parts.{Member}
@@ -14,12 +13,13 @@ use Rattle.rules.proofs.Bounds.{member}
 use Rattle.rules.proofs.Cells.{cell-meets}
 use Rattle.rules.proofs.Meaning.{own_alone, alone-own, Meets, is-meets, fault-sound}
 use Rattle.places.specs.Places.{Few, Clash}
+use Rattle.std.specs.Prelude.{Ok}
 
 -- ---- a message by itself
-pub own-placed : (p : List ℕ) (j c r : ℕ) → own_fault p j c r ≡ Clear → Placed p j c r
+pub own-placed : (p : List ℕ) (j c r : ℕ) → own_fault p j c r ≡ Ok tt → Placed p j c r
 own-placed p j c r e = (own_alone p j c r e).placed
 
-pub fault-own : (p w : List ℕ) (j : ℕ) → fault p w j ≡ Clear → own_fault p j (column w j) (row w j) ≡ Clear
+pub fault-own : (p w : List ℕ) (j : ℕ) → fault p w j ≡ Ok tt → own_fault p j (column w j) (row w j) ≡ Ok tt
 fault-own p w j e = alone-own p j (column w j) (row w j) (fault-sound p w j e).alone
 
 -- the column of a message that is placed is a digit of a word

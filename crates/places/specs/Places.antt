@@ -1,7 +1,6 @@
 -- The places that messages may take, as a table. A set of columns is a word with a digit for each, and so is a set of messages.
-use Rattle.std.specs.Prelude.{ℕ, ◌+◌, ◌*◌, ◌%◌, ◌<◌, ◌≤◌, ◌≡◌, List, get_or}
+use Rattle.std.specs.Prelude.{ℕ, ◌+◌, ◌*◌, ◌%◌, ◌<◌, ◌≤◌, ◌≡◌, List, get_or, Ok}
 use Rattle.basics.specs.Bits.{Has}
-use Rattle.rules.specs.declared.Fault.TheVariants.{Clear}
 use Rattle.rules.specs.Problem.{most_rows, most_columns, rows, messages, repeat, column, row, WellFormed}
 use Rattle.rules.specs.Parts.{Repeat}
 use Rattle.rules.specs.Tests.{common, own_fault, Stand}
@@ -30,7 +29,7 @@ pub record Steps (p s : List ℕ) : Type 0 where
 -- ---- one message by itself, where the cells that the row words o have are taken
 -- it may stand at column c and base row r: it has no fault of its own, and none of its cells is taken
 pub record Open (p o : List ℕ) (j c r : ℕ) : Type 0 where
-  pub own : own_fault p j c r ≡ Clear
+  pub own : own_fault p j c r ≡ Ok tt
   pub free : SetBefore o c r (repeat p j) (rows p) → ⊥
 
 -- x has exactly the columns in which message j may stand with base row r

@@ -8,11 +8,9 @@ use native.Mathlib.Omega.{arith}
 use lib.ListN.{length}
 use Rattle.basics.specs.Sums.{sum}
 use Rattle.basics.proofs.Tests.{not-both}
-use Rattle.rules.specs.declared.Fault.{Fault}
-use Rattle.rules.specs.declared.Fault.TheVariants.{Clear, Bad}
-use Rattle.rules.specs.Paper.{Answers, room_fault}
+use Rattle.rules.specs.Paper.{Answers, room_fault, Answer, count_of, paper}
 use Rattle.rules.specs.Problem.{messages, proposal_words}
-use Rattle.rules.specs.Refusal.{◌⊕◌}
+use Rattle.rules.specs.Refusal.{◌⊕◌, Fault}
 use Rattle.rules.specs.Tests.{proposal_fault}
 use Rattle.rules.proofs.Exact.{exact}
 use Rattle.rules.proofs.Faults.{clear_both}
@@ -23,11 +21,10 @@ use Rattle.proposal.specs.Accepted.{check_fault}
 use Rattle.proposal.proofs.Accepting.{clear-accepted}
 use Rattle.proposal.proofs.KeptMet.{all-kept, kept-none}
 use Rattle.rest.specs.Free.{free_of}
-use Rattle.planner.specs.declared.answer.Planned.{Planned}
-use Rattle.planner.specs.Answer.{paper, count_of}
 use Rattle.planner.specs.Least.{Plan, PlanKeeping}
 use Rattle.planner.specs.Promise.{Chosen, refused, none, planned, unready, Planning, unready_again, Replanning}
 use Rattle.planner.proofs.Order.{agree-eq}
+use Rattle.std.specs.Prelude.{Err, Ok}
 
 -- ---- how many messages are not kept
 none_free : (k : List ℕ) (h : ℕ) → ((j : ℕ) → j < h → keeps k j ≡ true) → free_of k h ≡ 0
@@ -42,7 +39,7 @@ all-free k (suc h) n = rw (all-free k h (λ j l. n j (omega arith)), n h (omega 
 
 -- ---- the same proposals, after the same fault
 module _ {A B : List ℕ → Type 0} (on : (w : List ℕ) → A w → B w) (back : (w : List ℕ) → B w → A w) where
-  chosen-same : {n : ℕ} {x y : Fault} {d e : List ℕ} {r : Planned} → y ≡ x → Chosen A n x d e r → Chosen B n y d e r
+  chosen-same : {n : ℕ} {x y : Fault} {d e : List ℕ} {r : Answer} → y ≡ x → Chosen A n x d e r → Chosen B n y d e r
   chosen-same q (refused t e a) = refused t (q ∙ e) a
   chosen-same q (none e f a) = none (q ∙ e) (λ w b. f w (back w b)) a
   chosen-same q (planned e w l a) = planned (q ∙ e) w record { plan = on w l.plan; least = λ v b. l.least v (back v b) } a
@@ -60,7 +57,7 @@ module _ (f : List ℕ) {k : List ℕ} (n : KeepsNone (words_of f) k) where
   keeps-it w h = record { plan = h; keeping = record { columns-same = λ j l y. not-both y (n.none_kept j l); rows_same = λ j l y. not-both y (n.none_kept j l) } }
 
   -- the theorem: the promise is plan's
-  pub nothing-kept : {d e : List ℕ} {r : Planned} → Replanning f k d e r ↔ Planning f d e r
+  pub nothing-kept : {d e : List ℕ} {r : Answer} → Replanning f k d e r ↔ Planning f d e r
   nothing-kept {d} = (
     λ h. record { answered = chosen-same (λ w a. a.plan) keeps-it (sym (same-fault d)) h.answered },
     λ h. record { answered = chosen-same keeps-it (λ w a. a.plan) (same-fault d) h.answered },
@@ -72,8 +69,8 @@ pub record KeepsAll (p k : List ℕ) : Type 0 where
 
 -- what is wrong with a file, with a proposal, and with the room
 turn : (a b c : Fault) → a ⊕ b ⊕ c ≡ (a ⊕ b) ⊕ c
-turn Clear b c = refl
-turn (Bad q) b c = refl
+turn (Ok tt) b c = refl
+turn (Err q) b c = refl
 
 module _ (f : List ℕ) {k : List ℕ} (n : KeepsAll (words_of f) k) where
   judged-fault : (d : List ℕ) → file_fault f ⊕ unready_again (words_of f) k d ≡ check_fault f k ⊕ room_fault (proposal_words (words_of f)) (length d)
@@ -82,25 +79,25 @@ module _ (f : List ℕ) {k : List ℕ} (n : KeepsAll (words_of f) k) where
       (turn (file_fault f) (proposal_fault (words_of f) k) (room_fault (proposal_words (words_of f)) (length d)))
 
   -- without a fault what is kept is a plan, and no other keeps it
-  is-plan : check_fault f k ≡ Clear → PlanKeeping (words_of f) k k
+  is-plan : check_fault f k ≡ Ok tt → PlanKeeping (words_of f) k k
   is-plan c =
       let a = clear-accepted f k c in
       let both = (exact (words_of f) k a.formed).0 a.faultless in
       record { plan = record { in-range = both.0; acceptable = both.1 }; keeping = record { columns-same = λ j l y. refl; rows_same = λ j l y. refl } }
 
-  only-plan : {w : List ℕ} → check_fault f k ≡ Clear → PlanKeeping (words_of f) k w → w ≡ k
+  only-plan : {w : List ℕ} → check_fault f k ≡ Ok tt → PlanKeeping (words_of f) k w → w ≡ k
   only-plan {w} c h =
       agree-eq (messages (words_of f)) w k h.plan.in-range.words (is-plan c).plan.in-range.words
       record { columns-same = λ j l. h.keeping.columns-same j l (n.each j l); rows_same = λ j l. h.keeping.rows_same j l (n.each j l) }
 
-  settle : {x : Fault} {d e : List ℕ} {r : Planned} → x ≡ check_fault f k ⊕ room_fault (proposal_words (words_of f)) (length d) → Chosen (PlanKeeping (words_of f) k) (messages (words_of f)) x d e r
-      → Answers paper count_of x k d e r
+  settle : {x : Fault} {d e : List ℕ} {r : Answer} → x ≡ check_fault f k ⊕ room_fault (proposal_words (words_of f)) (length d) → Chosen (PlanKeeping (words_of f) k) (messages (words_of f)) x d e r
+      → Answers x k d e r
   settle {d = d} {e} {r} q (refused t h a) = rw h record { paper-is = a.paper-is; count-is = a.count-is; buffer-is = a.buffer-is }
   settle {d = d} {e} {r} q (none h g a) = absurd (g k (is-plan (clear_both (check_fault f k) _ (sym q ∙ h)).0))
   settle {d = d} {e} {r} q (planned h w l a) =
       let c = (clear_both (check_fault f k) _ (sym q ∙ h)).0 in
-      rw h (subst (λ (v : List ℕ). Answers paper count_of Clear v d e r) (only-plan c l.plan) a)
+      rw h (subst (λ (v : List ℕ). Answers (Ok tt) v d e r) (only-plan c l.plan) a)
 
   -- the theorem: what is kept is answered exactly where judge accepts it and there is room, and else judge's refusal
-  pub everything-kept : {d e : List ℕ} {r : Planned} → Replanning f k d e r → Answers paper count_of (check_fault f k ⊕ room_fault (proposal_words (words_of f)) (length d)) k d e r
-  everything-kept {d} {e} {r} h = subst (λ (x : Fault). Answers paper count_of x k d e r) (judged-fault d) (settle (judged-fault d) h.answered)
+  pub everything-kept : {d e : List ℕ} {r : Answer} → Replanning f k d e r → Answers (check_fault f k ⊕ room_fault (proposal_words (words_of f)) (length d)) k d e r
+  everything-kept {d} {e} {r} h = subst (λ (x : Fault). Answers x k d e r) (judged-fault d) (settle (judged-fault d) h.answered)

@@ -9,7 +9,6 @@ use borrow.Author.Count.{below_more}
 use lib.ListN.{get_or, length-set}
 use Rattle.basics.specs.Bits.{Has}
 use Rattle.basics.proofs.Tests.{never, true-T}
-use Rattle.rules.specs.declared.Fault.TheVariants.{Clear}
 use Rattle.rules.specs.Problem.{messages, repeat, Gives, column, row}
 use Rattle.rules.specs.Tests.{own_fault, meeting_fault, fault, Stand}
 use Rattle.rules.proofs.Meaning.{meets-is, unmet-clear}
@@ -20,6 +19,7 @@ use Rattle.planner.specs.Order.{Agree, Before}
 use Rattle.places.specs.Places.{table_at}
 use Rattle.planner.specs.Search.{Leaves, Best, Nowhere}
 use Rattle.planner.proofs.Order.{places, agree_refl, agree-sym, agree_trans, agree_less, put_keeps, put-column, put-row, put-agree}
+use Rattle.std.specs.Prelude.{Ok}
 
 -- a message's fault goes by the placements up to it
 pub fault-agree : (p : List ℕ) {v w : List ℕ} (j : ℕ) → Agree v w (j + 1) → fault p v j ≡ fault p w j
@@ -27,11 +27,11 @@ fault-agree p {v} {w} j g = same-fault p v w j λ i l. record { column-is = g.co
 
 -- ---- message k at column c and base row r
 module _ (p v : List ℕ) (k c r : ℕ) where
-  put-fault : Gives v k → own_fault p k c r ≡ Clear → meeting_fault p (put v k c r) k ≡ Clear → fault p (put v k c r) k ≡ Clear
+  put-fault : Gives v k → own_fault p k c r ≡ Ok tt → meeting_fault p (put v k c r) k ≡ Ok tt → fault p (put v k c r) k ≡ Ok tt
   unfolding fault
   put-fault room e t = rw (put-column v k c r room, put-row v k c r room, e, t)
 
-  pub put-stood : Stand p k v → fault p (put v k c r) k ≡ Clear → Stand p (k + 1) (put v k c r)
+  pub put-stood : Stand p k v → fault p (put v k c r) k ≡ Ok tt → Stand p (k + 1) (put v k c r)
   put-stood S e = record {
     each = below_more _ k (λ j l. sym (fault-agree p j (agree_less (j + 1) (omega arith) (put_keeps v k c r))) ∙ S.each j l) e;
   }

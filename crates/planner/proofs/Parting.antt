@@ -9,7 +9,6 @@ use native.Mathlib.Nat.{eq-or-lt_of_le, le_of_suc-le-suc}
 use native.Mathlib.Omega.{arith}
 use lib.ListN.{length, get_or, replicate, length-set, length-replicate}
 use Rattle.basics.proofs.Tests.{true-or, not-both, below_or}
-use Rattle.rules.specs.declared.Fault.TheVariants.{Clear}
 use Rattle.rules.specs.Cells.{Here}
 use Rattle.rules.specs.Parts.{Member}
 use Rattle.rules.specs.Problem.{rows, messages, repeat, Gives, column, row, WellFormed, Placed}
@@ -30,6 +29,7 @@ use Rattle.planner.specs.Order.{Agree, NotAfter}
 use Rattle.planner.specs.Search.{Suiting}
 use Rattle.planner.specs.Complete.{Sound}
 use Rattle.planner.proofs.Order.{put_keeps, put-column, put-row}
+use Rattle.std.specs.Prelude.{Ok}
 
 -- ---- w has the messages whose numbers are in m where v has the slots, the first h
 pub record Picked (w m v : List ℕ) (h : ℕ) : Type 0 where
@@ -89,7 +89,7 @@ module _ {p m : List ℕ} {n : ℕ} (N : Numbers p m n) where
 
   -- what has no fault has none by their slots, in the problem that they make
   module _ {q w v : List ℕ} (Q : Part p m n q) (W : Stand p (messages p) w) (P : Picked w m v n) where
-    slot-own : (s : ℕ) → s < n → own_fault q s (column v s) (row v s) ≡ Clear
+    slot-own : (s : ℕ) → s < n → own_fault q s (column v s) (row v s) ≡ Ok tt
     slot-own s ls = part-own Q s (column v s) (row v s) ls (rw (← P.columns-same s ls, ← P.rows_same s ls) (fault-own p w (get_or m s 0) (W.each _ (N.below s ls))))
 
     pub slot-stands : Stand q (messages q) v
@@ -153,7 +153,7 @@ module _ {p k t m q : List ℕ} {n : ℕ} (S : Sound p k t m n) (Q : Part p m n 
     slots : (s : ℕ) → s < n → s < messages q
     slots s l = let e = Q.count in omega arith
 
-    whole-own : (j : ℕ) → j < messages p → own_fault p j (column w j) (row w j) ≡ Clear
+    whole-own : (j : ℕ) → j < messages p → own_fault p j (column w j) (row w j) ≡ Ok tt
     whole-own j lj =
         ⊎_elim
         (λ y. rw (J.kept-columns j lj y, J.kept-rows j lj y) (fault-own p k j (kept.each j lj y)))
@@ -162,7 +162,7 @@ module _ {p k t m q : List ℕ} {n : ℕ} (S : Sound p k t m n) (Q : Part p m n 
         let s = at.slot in
         let ls = at.among in
         let own = own-part Q s (column u s) (row u s) ls (fault-own q u s (U.stands.each s (slots s ls))) in
-        subst (λ (i : ℕ). own_fault p i (column w i) (row w i) ≡ Clear) at.is (rw (J.free-columns s ls, J.free-rows s ls) own))
+        subst (λ (i : ℕ). own_fault p i (column w i) (row w i) ≡ Ok tt) at.is (rw (J.free-columns s ls, J.free-rows s ls) own))
         (true-or (keeps k j))
 
     whole-placed : (j : ℕ) → j < messages p → Placed p j (column w j) (row w j)

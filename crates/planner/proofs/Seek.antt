@@ -7,8 +7,6 @@ use native.Mathlib.Nat.{add-zero}
 use native.Mathlib.Omega.{arith}
 use lib.ListN.{length, replicate, length-set, length-replicate}
 use lib.Seq.{take_all}
-use Rattle.rules.specs.declared.Fault.{Fault}
-use Rattle.rules.specs.declared.Fault.TheVariants.{Clear, Bad}
 use Rattle.rules.specs.Problem.{columns, messages, repeat, proposal_words, Gives, WellFormed}
 use Rattle.rules.specs.Tests.{fault, Stand}
 use Rattle.rules.proofs.Faults.{bad-not-clear}
@@ -19,6 +17,8 @@ use Rattle.planner.specs.Search.{Best, Nowhere}
 use Rattle.planner.proofs.Gone.{fault-agree, put-stood, Gone, gone-start, gone-next, gone-column, gone-all, found, whole}
 use Rattle.planner.proofs.Least.{least-plan, no-plan}
 use Rattle.planner.proofs.Order.{put-agree}
+use Rattle.std.specs.Prelude.{Err, Ok}
+use Rattle.rules.specs.Refusal.{Fault}
 
 -- ---- the first answer among the base rows from r on, and among the columns from c on
 abbrev scan-rows : (ℕ → ℕ → Option (List ℕ)) → ℕ → ℕ → ℕ → Option (List ℕ)
@@ -31,7 +31,7 @@ scan-columns f rows c (suc rest) = elim (scan-rows f c 0 rows) [ some u ↦ some
 
 -- where message k has no fault, what f finds behind it
 abbrev attempt : (List ℕ → Option (List ℕ)) → List ℕ → List ℕ → ℕ → ℕ → ℕ → Option (List ℕ)
-attempt f p v k c r = elim (fault p (put v k c r) k) [ Clear ↦ f (put v k c r) | Bad q ↦ none ]
+attempt f p v k c r = elim (fault p (put v k c r) k) [ Ok tt ↦ f (put v k c r) | Err q ↦ none ]
 
 -- the placements of m messages from message k on
 abbrev seek : List ℕ → ℕ → ℕ → List ℕ → Option (List ℕ)
@@ -78,7 +78,7 @@ module _ (p : List ℕ) (k : ℕ) (v : List ℕ) where
   finish none c h e G = gone-all (Stand p (messages p)) k v c (columns p) (λ w S. (stands S k h).column-below) e G
 
   attempt-right : (f : List ℕ → Option (List ℕ)) → k < messages p → Gives v k
-      → ((c r : ℕ) → fault p (put v k c r) k ≡ Clear → Sought p (k + 1) (put v k c r) (f (put v k c r)))
+      → ((c r : ℕ) → fault p (put v k c r) k ≡ Ok tt → Sought p (k + 1) (put v k c r) (f (put v k c r)))
       → (c r : ℕ) → Gone (Stand p (messages p)) k v c r → Scanned p k v c (r + 1) (attempt f p v k c r)
   attempt-right f h room behind c r G = go (fault p (put v k c r) k) refl
     where
@@ -86,9 +86,9 @@ module _ (p : List ℕ) (k : ℕ) (v : List ℕ) where
       deep (some u) B = found (Stand p (messages p)) k v (messages p) c r _ h room refl B (λ ec er S. S) (λ x S ec er. S) G
       deep none N = gone-next (Stand p (messages p)) k v c r G λ w S g ec er. N.none w S (put-agree v k c r room g ec er)
 
-      go : (x : Fault) → fault p (put v k c r) k ≡ x → Scanned p k v c (r + 1) (elim x [ Clear ↦ f (put v k c r) | Bad q ↦ none ])
-      go Clear e = deep (f (put v k c r)) (behind c r e)
-      go (Bad q) e = gone-next (Stand p (messages p)) k v c r G λ w S g ec er. bad-not-clear (fault-agree p k (put-agree v k c r room g ec er) ∙ S.each k h) e
+      go : (x : Fault) → fault p (put v k c r) k ≡ x → Scanned p k v c (r + 1) (elim x [ Ok tt ↦ f (put v k c r) | Err q ↦ none ])
+      go (Ok tt) e = deep (f (put v k c r)) (behind c r e)
+      go (Err q) e = gone-next (Stand p (messages p)) k v c r G λ w S g ec er. bad-not-clear (fault-agree p k (put-agree v k c r room g ec er) ∙ S.each k h) e
 
 seek-right : (p : List ℕ) (m k : ℕ) (v : List ℕ) → k + m ≡ messages p → proposal_words p ≤ length v → Stand p k v → Sought p k v (seek p m k v)
 seek-right p zero k v e room S = whole (Stand p (messages p)) k v (messages p) (omega arith) record { each = λ j l. S.each j (omega arith) }

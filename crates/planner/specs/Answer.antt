@@ -1,14 +1,12 @@
 -- What each answer of the planner is in the paper's terms, and how many words it wrote.
-use Rattle.std.specs.Prelude.{ℕ}
+use Rattle.std.specs.Prelude.{ℕ, Err, Ok}
 use Rattle.rules.specs.declared.Paper.{Paper}
-use Rattle.rules.specs.Paper.{done, refused}
-use Rattle.planner.specs.declared.answer.Planned.{Planned}
-use Rattle.planner.specs.declared.answer.Planned.TheVariants.{Proposal, Refused}
+use Rattle.rules.specs.Paper.{done, refused, Answer}
 
-abbrev pub paper : Planned → Paper
-paper (Proposal n) = done
-paper (Refused q) = refused q
+abbrev pub paper : Answer → Paper
+paper (Ok n) = done
+paper (Err q) = refused q
 
-abbrev pub count_of : Planned → ℕ
-count_of (Proposal n) = n
-count_of (Refused q) = 0
+abbrev pub count_of : Answer → ℕ
+count_of (Ok n) = n
+count_of (Err q) = 0

@@ -1,6 +1,5 @@
 -- Kept placements that have passed the tests, and what completes them.
-use Rattle.std.specs.Prelude.{ℕ, ◌≤◌, ◌≡◌, Bool, true, false, List, length, take}
-use Rattle.rules.specs.declared.Fault.TheVariants.{Clear}
+use Rattle.std.specs.Prelude.{ℕ, ◌≤◌, ◌≡◌, Bool, true, false, List, length, take, Ok}
 use Rattle.rules.specs.Problem.{messages, proposal_words, WellFormed}
 use Rattle.row_words.specs.RowWords.{RowWords}
 use Rattle.proposal.specs.Partial.{kept_fault}
@@ -11,7 +10,7 @@ use Rattle.planner.specs.Least.{PlanKeeping, LeastKeeping}
 -- nothing is wrong with the placements k, and the row words t have their cells; m has the numbers of the n messages without one
 pub record Sound (p k t m : List ℕ) (n : ℕ) : Type 0 where
   pub formed : WellFormed p
-  pub faultless : kept_fault p k ≡ Clear
+  pub faultless : kept_fault p k ≡ Ok tt
   pub cells : RowWords p k (messages p) t
   pub free : Free k (messages p) m n
   pub few : n ≤ most_planned

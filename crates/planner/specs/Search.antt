@@ -1,8 +1,7 @@
 -- What the search asks and answers at each call: its first k messages are placed as in v.
-use Rattle.std.specs.Prelude.{ℕ, ◌*◌, ◌<◌, ◌≤◌, ◌≡◌, Bool, true, false, List, length, get_or, replicate}
+use Rattle.std.specs.Prelude.{ℕ, ◌*◌, ◌<◌, ◌≤◌, ◌≡◌, Bool, true, false, List, length, get_or, replicate, Ok}
 use Rattle.basics.specs.Bits.{Has}
 use Rattle.rules.specs.Problem.{rows, messages, repeat, column, row}
-use Rattle.rules.specs.declared.Fault.TheVariants.{Clear}
 use Rattle.rules.specs.Tests.{own_fault, Stand}
 use Rattle.row_words.specs.RowWords.{SetBefore}
 use Rattle.places.specs.Places.{most_planned, table_at, Few, Steps, Clash}
@@ -18,7 +17,7 @@ unplanned = replicate plan_words 0
 
 -- the table t leaves the messages from k on only places that they may have by themselves and beside the first k of v
 pub record Leaves (p : List ℕ) (k : ℕ) (v t : List ℕ) : Type 0 where
-  pub own : (j r c : ℕ) → k ≤ j → j < messages p → r < repeat p j → Has (get_or t (table_at j r) 0) c → own_fault p j c r ≡ Clear
+  pub own : (j r c : ℕ) → k ≤ j → j < messages p → r < repeat p j → Has (get_or t (table_at j r) 0) c → own_fault p j c r ≡ Ok tt
   pub unmet : (j r c : ℕ) → k ≤ j → j < messages p → r < repeat p j → Has (get_or t (table_at j r) 0) c → (i : ℕ) → i < k → Clash p i (column v i) (row v i) j c r → ⊥
 
 -- the search comes to message k: it has placed those before, as in v, and the table t has the places that they leave

@@ -12,13 +12,11 @@ use lib.ListN.{length, take, drop, length-append, length-drop}
 use lib.Seq.{length-take-le}
 use Rattle.basics.specs.Runs.{run, piece, front, Turned}
 use Rattle.basics.proofs.Runs.{length_run, length_front, length-piece, listed-take, filled, tail-part, turned-back}
-use Rattle.rules.specs.declared.Fault.{Fault}
-use Rattle.rules.specs.declared.Fault.TheVariants.{Clear, Bad}
 use Rattle.rules.specs.declared.Refusal.{Refusal}
 use Rattle.rules.specs.declared.Refusal.TheVariants.{Length}
 use Rattle.rules.specs.Problem.{header_words, columns, messages, word_count, WellFormed, Header}
 use Rattle.rules.specs.Rules.{header_fault, words_fault}
-use Rattle.rules.specs.Refusal.{guard}
+use Rattle.rules.specs.Refusal.{guard, Fault}
 use Rattle.rules.proofs.Faults.{clear_both, clear-test}
 use Rattle.rules.proofs.Formed.{header-kept, words-formed, formed-words}
 use Rattle.problem.specs.declared.layout.Layout.{Layout}
@@ -30,6 +28,7 @@ use Rattle.problem.specs.Parts.{Said}
 use Rattle.problem.proofs.Layouts.{column-words-are, said-back, said-forth}
 use Rattle.problem.proofs.File.{part1, part2, rest, three-parts}
 use Rattle.problem.proofs.RoundTrip.{column_fits}
+use Rattle.std.specs.Prelude.{Err, Ok}
 
 -- ---- words with a for each column, made words with b
 module _ (a b : ℕ) (w : List ℕ) where
@@ -109,21 +108,21 @@ told Two p f =
 
 -- ---- the writer's chain, by cases
 module _ (w : List ℕ) where
-  pub count-short : length w < 7 → Bad Length ≡ count_fault w
+  pub count-short : length w < 7 → Err Length ≡ count_fault w
   unfolding count_fault
   count-short l = rw (lt-ltb (length w) 7 l)
 
   module _ (long : 7 ≤ length w) where
-    pub count-header : {x : Fault} {q : Refusal} → x ≡ header_fault w → x ≡ Bad q → x ≡ count_fault w
+    pub count-header : {x : Fault} {q : Refusal} → x ≡ header_fault w → x ≡ Err q → x ≡ count_fault w
     unfolding count_fault
     count-header e b = rw (le-ltb (length w) 7 long, ← e, b)
 
-    module _ (right : header_fault w ≡ Clear) where
-      pub count-unlike : (length w ≡ said_count (layout_by w) w → ⊥) → Bad Length ≡ count_fault w
+    module _ (right : header_fault w ≡ Ok tt) where
+      pub count-unlike : (length w ≡ said_count (layout_by w) w → ⊥) → Err Length ≡ count_fault w
       unfolding count_fault
       count-unlike n = rw (le-ltb (length w) 7 long, right, ne_eqb (length w) (said_count (layout_by w) w) n)
 
-      pub count-clear : length w ≡ said_count (layout_by w) w → Clear ≡ count_fault w
+      pub count-clear : length w ≡ said_count (layout_by w) w → Ok tt ≡ count_fault w
       unfolding count_fault
       count-clear e = rw (le-ltb (length w) 7 long, right, eq-eqb (length w) (said_count (layout_by w) w) e)
 
@@ -136,7 +135,7 @@ pub record Given (w : List ℕ) : Type 0 where
   pub header : Header w
   pub words : length w ≡ said_count (layout_by w) w
 
-pub given-right : (w : List ℕ) → count_fault w ≡ Clear → Given w
+pub given-right : (w : List ℕ) → count_fault w ≡ Ok tt → Given w
 unfolding count_fault
 given-right w e =
     let a = clear_both (guard (ltb (length w) 7) Length) _ e in
@@ -158,11 +157,11 @@ given-said {w} g et ek em =
     }
 
 module _ (w : List ℕ) where
-  pub problem-count : {q : Refusal} → count_fault w ≡ Bad q → problem_fault w ≡ Bad q
+  pub problem-count : {q : Refusal} → count_fault w ≡ Err q → problem_fault w ≡ Err q
   unfolding problem_fault
   problem-count e = rw e
 
-  pub problem-rest : (l : List ℕ) (x : Fault) → count_fault w ≡ Clear → l ≡ problem_of w → x ≡ words_fault l → problem_fault w ≡ x
+  pub problem-rest : (l : List ℕ) (x : Fault) → count_fault w ≡ Ok tt → l ≡ problem_of w → x ≡ words_fault l → problem_fault w ≡ x
   unfolding problem_fault
   problem-rest l x e p q = rw (e, ← p, ← q)
 
@@ -176,7 +175,7 @@ pub given-header : (w : List ℕ) → Given w → Header (problem_of w)
 given-header w g = (header-kept (problem_of w)).0 (recast-header (column_words (layout_by w)) 3 w ∙ (header-kept w).1 g.header)
 
 -- What a caller gives without a fault is a well-formed problem as callers see it
-pub given-formed : (w : List ℕ) → problem_fault w ≡ Clear → WellFormed (problem_of w) × (narrow (layout_by w) (problem_of w) ≡ w)
+pub given-formed : (w : List ℕ) → problem_fault w ≡ Ok tt → WellFormed (problem_of w) × (narrow (layout_by w) (problem_of w) ≡ w)
 unfolding problem_fault
 given-formed w e =
     let a = clear_both (count_fault w) (words_fault (problem_of w)) e in
@@ -184,12 +183,12 @@ given-formed w e =
     (words-formed (problem_of w) (given-header w g) (given-count w g) a.1, narrow-widen (layout_by w) w g.words)
 
 -- And a well-formed problem as callers see it has no fault, and is that problem
-pub formed-given : (L : Layout) (p : List ℕ) → WellFormed p → Held L p → (problem_fault (narrow L p) ≡ Clear) × (problem_of (narrow L p) ≡ p)
+pub formed-given : (L : Layout) (p : List ℕ) → WellFormed p → Held L p → (problem_fault (narrow L p) ≡ Ok tt) × (problem_of (narrow L p) ≡ p)
 formed-given L p f held =
     let n : ℕ = column_words L in
     let w : List ℕ = narrow L p in
     let l : length w ≡ said_for n (columns p) (messages p) = recast-length 3 n p f.words in
     let is : problem_of w ≡ p = ap (λ (N : Layout). widen N w) (told L p f) ∙ widen-narrow L p f held in
     let counted : length w ≡ said_count (layout_by w) w = l ∙ rw (told L p f, recast-columns 3 n p, recast-messages 3 n p) in
-    let count : Clear ≡ count_fault w = count-clear w (omega (arith, l)) (recast-header 3 n p ∙ (header-kept p).1 f.header) counted in
-    (problem-rest w p Clear (sym count) (sym is) (sym (formed-words p f)), is)
+    let count : (Ok tt) ≡ count_fault w = count-clear w (omega (arith, l)) (recast-header 3 n p ∙ (header-kept p).1 f.header) counted in
+    (problem-rest w p (Ok tt) (sym count) (sym is) (sym (formed-words p f)), is)

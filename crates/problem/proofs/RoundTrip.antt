@@ -11,7 +11,6 @@ use lib.ListN.{length, get_or, take, drop}
 use Rattle.basics.specs.Runs.{run, piece, front}
 use Rattle.basics.proofs.Runs.{there_and_back, get_or-piece, length-piece, listed-take, Small, small-piece}
 use Rattle.basics.proofs.Tests.{and-true}
-use Rattle.rules.specs.declared.Fault.TheVariants.{Clear, Bad}
 use Rattle.rules.specs.declared.Refusal.{Refusal}
 use Rattle.rules.specs.Problem.{column_at, columns, messages, WellFormed}
 use Rattle.rules.specs.Rules.{header_fault}
@@ -26,9 +25,10 @@ use Rattle.problem.proofs.Bytes.{low_small, two_back, high-two, low-two}
 use Rattle.problem.proofs.Layouts.{layout-found, version-is, version-small, version-found, column-length, message-length, column-back, message-back, ColumnFits, MessageFits, column-forth, message-forth}
 use Rattle.problem.proofs.File.{length-file}
 use Rattle.problem.proofs.Wrong.{bytes_in, head-right, head_clear, file-rest, file-parts, file-formed}
+use Rattle.std.specs.Prelude.{Err, Ok}
 
 -- ---- a file with no fault: its bytes, made words and bytes again
-module _ (f : List ℕ) (small : Small 256 f) (e : head_fault f ≡ Clear) where
+module _ (f : List ℕ) (small : Small 256 f) (e : head_fault f ≡ Ok tt) where
   header-back : header_bytes (layout_in f) (words_of f) ≡ take 16 f
   unfolding words_in
   header-back =
@@ -76,7 +76,7 @@ module _ (f : List ℕ) (small : Small 256 f) (e : head_fault f ≡ Clear) where
       refl
 
 -- Writing what was read: the words of a file that is read are well-formed, and their file of its version is that file
-pub write_read : (f : List ℕ) → Small 256 f → file_fault f ≡ Clear → WellFormed (words_of f) × (file_of (layout_in f) (words_of f) ≡ f)
+pub write_read : (f : List ℕ) → Small 256 f → file_fault f ≡ Ok tt → WellFormed (words_of f) × (file_of (layout_in f) (words_of f) ≡ f)
 write_read f small e = (file-formed f e, bytes_back f small (file-parts f e).0)
 
 -- ---- a well-formed problem: its words, made bytes and words again
@@ -160,27 +160,27 @@ module _ (L : Layout) (p : List ℕ) (f : WellFormed p) (held : Held L p) where
   words-of-file : words_of (file_of L p) ≡ p
   words-of-file = ap (λ (N : Layout). words_in N (file_of L p)) layout-forth ∙ words_back
 
-  header_made : header_fault (words_of (file_of L p)) ≡ Clear
+  header_made : header_fault (words_of (file_of L p)) ≡ Ok tt
   header_made = ap header_fault words-of-file ∙ (header-kept p).1 f.header
 
   bytes-made : length (file_of L p) ≡ bytes_in (file_of L p)
   bytes-made = length-file L p ∙ rw (layout-forth, columns-forth, messages-forth)
 
-  head-made : head_fault (file_of L p) ≡ Clear
+  head-made : head_fault (file_of L p) ≡ Ok tt
   unfolding file_of
   head-made =
       sym (head_clear (file_of L p) (omega (arith, length-file L p)) refl (ap is_version version-forth ∙ version-is L) (sym header_made) refl refl bytes-made)
 
 -- Reading what was written: the file of a well-formed problem that the version has room for is read, and its words are that problem
-pub read-written : (L : Layout) (p : List ℕ) → WellFormed p → Held L p → (file_fault (file_of L p) ≡ Clear) × (words_of (file_of L p) ≡ p) × (version_in (file_of L p) ≡ version L)
+pub read-written : (L : Layout) (p : List ℕ) → WellFormed p → Held L p → (file_fault (file_of L p) ≡ Ok tt) × (words_of (file_of L p) ≡ p) × (version_in (file_of L p) ≡ version L)
 read-written L p f held =
     let b = words-of-file L p f held in
-    (file-rest (file_of L p) p Clear (head-made L p f held) (sym b) (sym (formed-words p f)), b, version-forth L p f held)
+    (file-rest (file_of L p) p (Ok tt) (head-made L p f held) (sym b) (sym (formed-words p f)), b, version-forth L p f held)
 
 -- A well-formed problem has one file of each version: each file that is read as p is the one that is written for it
-pub one-file : (p f : List ℕ) → Small 256 f → file_fault f ≡ Clear → words_of f ≡ p → f ≡ file_of (layout_in f) p
+pub one-file : (p f : List ℕ) → Small 256 f → file_fault f ≡ Ok tt → words_of f ≡ p → f ≡ file_of (layout_in f) p
 one-file p f small e q = sym (write_read f small e).1 ∙ ap (file_of (layout_in f)) q
 
 -- A file that is refused is the file of no well-formed problem, in no version that has room for it
-pub refused-no-file : (L : Layout) (p f : List ℕ) (q : Refusal) → file_fault f ≡ Bad q → WellFormed p → Held L p → file_of L p ≡ f → ⊥
+pub refused-no-file : (L : Layout) (p f : List ℕ) (q : Refusal) → file_fault f ≡ Err q → WellFormed p → Held L p → file_of L p ≡ f → ⊥
 refused-no-file L p f q e w held h = bad-not-clear (ap file_fault (sym h) ∙ (read-written L p w held).0) e

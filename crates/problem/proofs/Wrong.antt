@@ -8,12 +8,10 @@ use native.Mathlib.Omega.{arith}
 use borrow.Author.Tests.{le-ltb, lt-ltb, eq-eqb, ne_eqb, ltb-false, eqb-true}
 use lib.Dec.{ltb, eqb}
 use lib.ListN.{length, get_or}
-use Rattle.rules.specs.declared.Fault.{Fault}
-use Rattle.rules.specs.declared.Fault.TheVariants.{Clear, Bad}
 use Rattle.rules.specs.declared.Refusal.{Refusal}
 use Rattle.rules.specs.declared.Refusal.TheVariants.{Length, Mark, Version, Header}
 use Rattle.rules.specs.Offsets.{last_byte}
-use Rattle.rules.specs.Refusal.{guard, first_fault}
+use Rattle.rules.specs.Refusal.{guard, first_fault, Fault}
 use Rattle.rules.specs.Problem.{word_count, columns, messages, kind, identifier, Header as HeaderKept, WellFormed}
 use Rattle.rules.specs.Rules.{header_fault, words_fault}
 use Rattle.rules.proofs.Faults.{clear-guard, clear_both, clear-test, clear_first, first-clear}
@@ -25,6 +23,7 @@ use Rattle.problem.specs.File.{head_bytes, bytes_for, header_of, version_in, lay
 use Rattle.problem.specs.Parts.{Counted}
 use Rattle.problem.specs.Wrong.{marked, head_fault, file_fault, column_unheld, message_unheld, held_fault}
 use Rattle.problem.proofs.File.{length-words}
+use Rattle.std.specs.Prelude.{Err, Ok}
 
 -- ---- words, by cases
 pub formed-counted : (p : List ℕ) (k m : ℕ) → WellFormed p → k ≡ columns p → m ≡ messages p → Counted p k m
@@ -47,36 +46,36 @@ module _ (f : List ℕ) where
   unfolding words_in header_fault
   header_read e h = rw e at h
 
-  pub head-short : length f < head_bytes → Bad Length ≡ head_fault f
+  pub head-short : length f < head_bytes → Err Length ≡ head_fault f
   unfolding head_fault
   head-short l = rw (lt-ltb (length f) head_bytes l)
 
   module _ (long : head_bytes ≤ length f) where
-    pub head-unmarked : marked f ≡ false → Bad Mark ≡ head_fault f
+    pub head-unmarked : marked f ≡ false → Err Mark ≡ head_fault f
     unfolding head_fault
     head-unmarked e = rw (le-ltb (length f) head_bytes long, e)
 
     module _ (mark : marked f ≡ true) where
-      pub head-other : is_version (version_in f) ≡ false → Bad Version ≡ head_fault f
+      pub head-other : is_version (version_in f) ≡ false → Err Version ≡ head_fault f
       unfolding head_fault
       head-other e = rw (le-ltb (length f) head_bytes long, mark, e)
 
       module _ (version : is_version (version_in f) ≡ true) {x : Fault} (tested : x ≡ header_fault (words_of f)) where
-        pub head-wrong : {q : Refusal} → x ≡ Bad q → x ≡ head_fault f
+        pub head-wrong : {q : Refusal} → x ≡ Err q → x ≡ head_fault f
         unfolding head_fault
         head-wrong e = rw (le-ltb (length f) head_bytes long, mark, version, ← tested, e)
 
-        module _ (right : x ≡ Clear) where
-          pub head-last : (get_or f last_byte 0 ≡ 0 → ⊥) → Bad (Header last_byte) ≡ head_fault f
+        module _ (right : x ≡ Ok tt) where
+          pub head-last : (get_or f last_byte 0 ≡ 0 → ⊥) → Err (Header last_byte) ≡ head_fault f
           unfolding head_fault
           head-last n = rw (le-ltb (length f) head_bytes long, mark, version, ← tested, right, ne_eqb (get_or f last_byte 0) 0 n)
 
           module _ (last : get_or f last_byte 0 ≡ 0) where
-            pub head-unlike : (length f ≡ bytes_in f → ⊥) → Bad Length ≡ head_fault f
+            pub head-unlike : (length f ≡ bytes_in f → ⊥) → Err Length ≡ head_fault f
             unfolding head_fault words_in
             head-unlike n = rw (le-ltb (length f) head_bytes long, mark, version, ← tested, right, eq-eqb (get_or f last_byte 0) 0 last, ne_eqb (length f) (bytes_in f) n)
 
-            pub head_clear : length f ≡ bytes_in f → Clear ≡ head_fault f
+            pub head_clear : length f ≡ bytes_in f → Ok tt ≡ head_fault f
             unfolding head_fault words_in
             head_clear e = rw (le-ltb (length f) head_bytes long, mark, version, ← tested, right, eq-eqb (get_or f last_byte 0) 0 last, eq-eqb (length f) (bytes_in f) e)
 
@@ -91,7 +90,7 @@ pub record Head (f : List ℕ) : Type 0 where
   pub columns-most : columns_in f ≤ 32
   pub messages-most : messages_in f ≤ 64
 
-pub head-right : (f : List ℕ) → head_fault f ≡ Clear → Head f
+pub head-right : (f : List ℕ) → head_fault f ≡ Ok tt → Head f
 unfolding head_fault words_in
 head-right f e =
     let a = clear_both (guard (ltb (length f) head_bytes) Length) _ e in
@@ -113,15 +112,15 @@ head-right f e =
 
 -- ---- a file
 module _ (f : List ℕ) where
-  pub file-head : (q : Refusal) → head_fault f ≡ Bad q → file_fault f ≡ Bad q
+  pub file-head : (q : Refusal) → head_fault f ≡ Err q → file_fault f ≡ Err q
   unfolding file_fault
   file-head q e = rw e
 
-  pub file-rest : (l : List ℕ) (x : Fault) → head_fault f ≡ Clear → l ≡ words_of f → x ≡ words_fault l → file_fault f ≡ x
+  pub file-rest : (l : List ℕ) (x : Fault) → head_fault f ≡ Ok tt → l ≡ words_of f → x ≡ words_fault l → file_fault f ≡ x
   unfolding file_fault
   file-rest l x e p q = rw (e, ← p, ← q)
 
-  pub file-parts : file_fault f ≡ Clear → (head_fault f ≡ Clear) × (words_fault (words_of f) ≡ Clear)
+  pub file-parts : file_fault f ≡ Ok tt → (head_fault f ≡ Ok tt) × (words_fault (words_of f) ≡ Ok tt)
   unfolding file_fault
   file-parts e = clear_both (head_fault f) (words_fault (words_of f)) e
 
@@ -130,11 +129,11 @@ module _ (f : List ℕ) where
   words-in = length-words f
 
   -- The words of a file with no fault are a well-formed problem
-  pub file-formed : file_fault f ≡ Clear → WellFormed (words_of f)
+  pub file-formed : file_fault f ≡ Ok tt → WellFormed (words_of f)
   file-formed e = let a = file-parts e in words-formed (words_of f) (head-right f a.0).header words-in a.1
 
 -- ---- a layout has room for a problem exactly where nothing is found that it has no room for
-pub held_kept : (L : Layout) (p : List ℕ) → (held_fault L p ≡ Clear) ↔ Held L p
+pub held_kept : (L : Layout) (p : List ℕ) → (held_fault L p ≡ Ok tt) ↔ Held L p
 unfolding held_fault
 held_kept L p = (
   λ e.
@@ -144,8 +143,8 @@ held_kept L p = (
         identifiers = λ j l. ltb-false _ _ (clear-guard _ _ (clear_first _ _ a.1 j l));
       },
   λ h.
-      let a : first_fault (columns p) (column_unheld L p) ≡ Clear = first-clear _ _ λ c l. rw (le-ltb (kind_most L) (kind p c) (h.kinds c l)) in
-      let b : first_fault (messages p) (message_unheld L p) ≡ Clear = first-clear _ _ λ j l. rw (le-ltb (identifier_most L) (identifier p j) (h.identifiers j l)) in
+      let a : first_fault (columns p) (column_unheld L p) ≡ Ok tt = first-clear _ _ λ c l. rw (le-ltb (kind_most L) (kind p c) (h.kinds c l)) in
+      let b : first_fault (messages p) (message_unheld L p) ≡ Ok tt = first-clear _ _ λ j l. rw (le-ltb (identifier_most L) (identifier p j) (h.identifiers j l)) in
       rw (a, b),
 )
 

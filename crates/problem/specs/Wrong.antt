@@ -1,11 +1,9 @@
 -- What is wrong with a file, with the words of a caller, and with a problem that a version is to hold: the first refusal in document 01's order.
-use Rattle.std.specs.Prelude.{ℕ, Bool, ◌&&◌, not, List, ◌≡◌, ltb, eqb, length, get_or}
-use Rattle.rules.specs.declared.Fault.{Fault}
-use Rattle.rules.specs.declared.Fault.TheVariants.{Clear}
+use Rattle.std.specs.Prelude.{ℕ, Bool, ◌&&◌, not, List, ◌≡◌, ltb, eqb, length, get_or, Ok}
 use Rattle.rules.specs.declared.Refusal.TheVariants.{Length, Mark, Version, Header, Unheld}
 use Rattle.rules.specs.Offsets.{last_byte}
 use Rattle.rules.specs.Problem.{header_words, columns, messages, kind, identifier}
-use Rattle.rules.specs.Refusal.{guard, ◌⊕◌, first_fault}
+use Rattle.rules.specs.Refusal.{guard, ◌⊕◌, first_fault, Fault}
 use Rattle.rules.specs.Rules.{header_fault, words_fault}
 use Rattle.problem.specs.declared.layout.Layout.{Layout}
 use Rattle.problem.specs.Layout.{is_version, kind_most, identifier_most}
@@ -31,7 +29,7 @@ file_fault f = head_fault f ⊕ words_fault (words_of f)
 
 -- the file f reads as the problem p
 pub record Reads (f p : List ℕ) : Type 0 where
-  pub clear : file_fault f ≡ Clear
+  pub clear : file_fault f ≡ Ok tt
   pub words : words_of f ≡ p
 
 -- ---- with the words that a writer is given

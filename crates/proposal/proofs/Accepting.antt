@@ -4,37 +4,36 @@ use mathlib.Core.Path.{◌≡◌, sym, ◌∙◌}
 use mathlib.Core.List.{List}
 use lib.ListN.{length, take}
 use lib.Seq.{length-take-le}
-use Rattle.rules.specs.declared.Fault.{Fault}
-use Rattle.rules.specs.declared.Fault.TheVariants.{Clear, Bad}
 use Rattle.rules.specs.declared.Refusal.{Refusal}
 use Rattle.rules.specs.Tests.{proposal_fault}
 use Rattle.rules.proofs.Faults.{clear_both}
 use Rattle.problem.specs.File.{words_of}
 use Rattle.problem.specs.Wrong.{file_fault}
 use Rattle.problem.proofs.Wrong.{file-formed}
-use Rattle.reader.specs.declared.answer.Read.{Read}
-use Rattle.reader.specs.declared.answer.Read.TheVariants.{Problem, Refused}
 use Rattle.reader.specs.Promise.{Opened, Decoded}
 use Rattle.reader.proofs.Decoding.{answered-bad, answered-words}
 use Rattle.proposal.specs.Accepted.{check_fault, Accepted}
 use Rattle.proposal.specs.Accept.{Admitted, Tested}
+use Rattle.std.specs.Prelude.{Err, Ok}
+use Rattle.rules.specs.Refusal.{Fault}
+use Rattle.rules.specs.Paper.{Answer}
 
 -- the file is refused
-pub tested-file : (w : List ℕ) {f e : List ℕ} {r : Read} {q : Refusal} → Decoded f e r → r ≡ Refused q → Tested f w e r
+pub tested-file : (w : List ℕ) {f e : List ℕ} {r : Answer} {q : Refusal} → Decoded f e r → r ≡ Err q → Tested f w e r
 tested-file w {q = q} d h = answered-bad q h (rw (d.refuses q h))
 
 -- it is read, and y is what is wrong with the proposal
-module _ (w : List ℕ) {f e : List ℕ} {r : Read} {n : ℕ} {y : Fault} (d : Decoded f e r) (is : r ≡ Problem n) (ey : y ≡ proposal_fault (take n e) w) where
+module _ (w : List ℕ) {f e : List ℕ} {r : Answer} {n : ℕ} {y : Fault} (d : Decoded f e r) (is : r ≡ Ok n) (ey : y ≡ proposal_fault (take n e) w) where
   opened : Opened f e n
   opened = d.opens n is
 
   found : check_fault f w ≡ y
   found = rw (opened.clear, ← opened.front) (sym ey)
 
-  pub tested-proposal : {q : Refusal} {s : Read} → s ≡ Refused q → y ≡ Bad q → Tested f w e s
+  pub tested-proposal : {q : Refusal} {s : Answer} → s ≡ Err q → y ≡ Err q → Tested f w e s
   tested-proposal {q} s h = answered-bad q s (found ∙ h)
 
-  pub tested-clear : {s : Read} → s ≡ Problem n → y ≡ Clear → Tested f w e s
+  pub tested-clear : {s : Answer} → s ≡ Ok n → y ≡ Ok tt → Tested f w e s
   tested-clear s-is h = answered-words n s-is record {
     clear = found ∙ h;
     within = opened.within;
@@ -43,7 +42,7 @@ module _ (w : List ℕ) {f e : List ℕ} {r : Read} {n : ℕ} {y : Fault} (d : D
   }
 
 -- what has no fault is accepted
-pub clear-accepted : (f w : List ℕ) → check_fault f w ≡ Clear → Accepted (words_of f) w
+pub clear-accepted : (f w : List ℕ) → check_fault f w ≡ Ok tt → Accepted (words_of f) w
 clear-accepted f w e = let parts = clear_both (file_fault f) (proposal_fault (words_of f) w) e in record { formed = file-formed f parts.0; faultless = parts.1 }
 
 -- ---- what the calls make of it

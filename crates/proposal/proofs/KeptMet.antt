@@ -10,7 +10,6 @@ use lib.ListN.{length}
 use borrow.Author.Tests.{eq-eqb, eqb-true}
 use Rattle.basics.proofs.Tests.{true-or, true-T, not-both}
 use Rattle.rules.specs.declared.Refusal.TheVariants.{ProposalLength, Meeting}
-use Rattle.rules.specs.declared.Fault.TheVariants.{Clear, Bad}
 use Rattle.rules.specs.Problem.{messages, proposal_words, column, row, WellFormed}
 use Rattle.rules.specs.Refusal.{guard, ◌⊕◌, first_fault}
 use Rattle.rules.specs.Tests.{meets, own_fault, meeting_fault, fault, proposal_fault}
@@ -20,6 +19,7 @@ use Rattle.rules.proofs.Named.{lower, not_own}
 use Rattle.kept.specs.Kept.{keeps}
 use Rattle.proposal.specs.Partial.{fault_in, kept_fault}
 use Rattle.proposal.proofs.Walk.{looked-fault, unlooked-clear, column-looked}
+use Rattle.std.specs.Prelude.{Err, Ok}
 
 -- ---- a meeting
 -- both messages are kept, and no kept message before the later one has a fault
@@ -27,7 +27,7 @@ pub record KeptMet (p k : List ℕ) (j i : ℕ) : Type 0 where
   pub among : j < messages p
   pub later-kept : keeps k j ≡ true
   pub earlier-kept : keeps k i ≡ true
-  pub before : (l : ℕ) → l < j → keeps k l ≡ true → fault p k l ≡ Clear
+  pub before : (l : ℕ) → l < j → keeps k l ≡ true → fault p k l ≡ Ok tt
   pub earlier : i < j
   pub meet : meets p k i j ≡ true
   pub lowest : (l : ℕ) → l < i → meets p k l j ≡ false
@@ -37,7 +37,7 @@ named {j = j} {i = i} {l = l} {h = h} e m = let ej : j ≡ l = cc in let ei : i 
 
 module _ (p k : List ℕ) {j i : ℕ} where
   -- the fault of a kept message
-  at-met : (l : ℕ) → WellFormed p → l < messages p → keeps k l ≡ true → ((h : ℕ) → h < l → fault_in true p k h ≡ Clear) → fault p k l ≡ Bad (Meeting j i) → KeptMet p k j i
+  at-met : (l : ℕ) → WellFormed p → l < messages p → keeps k l ≡ true → ((h : ℕ) → h < l → fault_in true p k h ≡ Ok tt) → fault p k l ≡ Err (Meeting j i) → KeptMet p k j i
   unfolding fault meeting_fault
   at-met l wf below kept before e =
       elim (bad-either (own_fault p l (column k l) (row k l)) _ e) [
@@ -58,7 +58,7 @@ module _ (p k : List ℕ) {j i : ℕ} where
       ]
 
   -- the theorem: it is the first kept message with a fault, and the lowest earlier one that it meets, which is kept too
-  pub kept-met : WellFormed p → kept_fault p k ≡ Bad (Meeting j i) → KeptMet p k j i
+  pub kept-met : WellFormed p → kept_fault p k ≡ Err (Meeting j i) → KeptMet p k j i
   unfolding kept_fault
   kept-met wf e =
       elim (bad-either (guard (not (eqb (length k) (proposal_words p))) ProposalLength) _ e) [
@@ -74,10 +74,10 @@ module _ (p k : List ℕ) {j i : ℕ} where
 -- ---- no fault: k has its words, and each message that it keeps has none
 pub record KeptClear (p k : List ℕ) : Type 0 where
   pub words : length k ≡ proposal_words p
-  pub each : (j : ℕ) → j < messages p → keeps k j ≡ true → fault p k j ≡ Clear
+  pub each : (j : ℕ) → j < messages p → keeps k j ≡ true → fault p k j ≡ Ok tt
 
 module _ (p k : List ℕ) where
-  pub kept-faultless : (kept_fault p k ≡ Clear) ↔ KeptClear p k
+  pub kept-faultless : (kept_fault p k ≡ Ok tt) ↔ KeptClear p k
   unfolding kept_fault
   kept-faultless = (
     λ e.
@@ -101,5 +101,5 @@ module _ (p k : List ℕ) where
   all-kept h =
       ap (guard (not (eqb (length k) (proposal_words p))) ProposalLength ⊕◌) (first-same (messages p) (fault_in true p k) (fault p k) (λ j l. looked-fault true p k j (h j l)))
 
-  pub kept-none : length k ≡ proposal_words p → ((j : ℕ) → j < messages p → keeps k j ≡ false) → kept_fault p k ≡ Clear
+  pub kept-none : length k ≡ proposal_words p → ((j : ℕ) → j < messages p → keeps k j ≡ false) → kept_fault p k ≡ Ok tt
   kept-none e h = (kept-faultless p k).1 record { words = e; each = λ j l y. not-both y (h j l) }

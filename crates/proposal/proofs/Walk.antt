@@ -14,11 +14,9 @@ use Rattle.basics.specs.Tests.{some}
 use Rattle.basics.proofs.Tests.{true-or, not-both, some_at, some-none}
 use Rattle.rules.specs.declared.Refusal.{Refusal}
 use Rattle.rules.specs.declared.Refusal.TheVariants.{ProposalLength, Meeting}
-use Rattle.rules.specs.declared.Fault.{Fault}
-use Rattle.rules.specs.declared.Fault.TheVariants.{Clear, Bad}
 use Rattle.rules.specs.Parts.{Member}
 use Rattle.rules.specs.Problem.{rows, columns, messages, repeat, proposal_words, column, row, WellFormed, Placed}
-use Rattle.rules.specs.Refusal.{guard, ◌⊕◌, first_fault}
+use Rattle.rules.specs.Refusal.{guard, ◌⊕◌, first_fault, Fault}
 use Rattle.rules.specs.Tests.{meets, own_fault, meeting_fault, fault, proposal_fault}
 use Rattle.rules.proofs.Faults.{bad-not-clear, first-clear, first-at, first-same}
 use Rattle.rules.proofs.Meaning.{Meets, own_alone, unmet-clear, fault-sound}
@@ -27,6 +25,7 @@ use Rattle.kept.proofs.Nobody.{none-column, none_row}
 use Rattle.row_words.specs.RowWords.{Taken, RowWords, Occupied}
 use Rattle.row_words.proofs.Taking.{tells-meeting, words_more}
 use Rattle.proposal.specs.Partial.{looked, fault_in, kept_fault, Walked}
+use Rattle.std.specs.Prelude.{Err, Ok}
 
 -- ---- the earlier messages, where one of them meets message j
 -- messages 0 to i - 1 do not
@@ -52,7 +51,7 @@ module _ (partial : Bool) (p w : List ℕ) (j : ℕ) where
   unfolding fault_in
   looked-fault e = rw e
 
-  pub unlooked-clear : looked partial w j ≡ false → fault_in partial p w j ≡ Clear
+  pub unlooked-clear : looked partial w j ≡ false → fault_in partial p w j ≡ Ok tt
   unfolding fault_in
   unlooked-clear e = rw e
 
@@ -88,7 +87,7 @@ words-skip {p} {w} {j = j} wf n g = record {
 
 -- ---- the messages before j have no fault, as far as they are looked at
 pub record Passed (partial : Bool) (p w : List ℕ) (j : ℕ) : Type 0 where
-  pub each : (k : ℕ) → k < j → fault_in partial p w k ≡ Clear
+  pub each : (k : ℕ) → k < j → fault_in partial p w k ≡ Ok tt
 
 pub passed_none : {partial : Bool} {p w : List ℕ} → Passed partial p w 0
 passed_none = record { each = λ k l. absurd (omega arith) }
@@ -108,13 +107,13 @@ pub record Turn (partial : Bool) (p w : List ℕ) (j : ℕ) (t t' : List ℕ) (b
   pub member : Member p j
   pub before : Passed partial p w j
   pub looked-at : looked partial w j ≡ true
-  pub own : own_fault p j (column w j) (row w j) ≡ Clear
+  pub own : own_fault p j (column w j) (row w j) ≡ Ok tt
   pub words : RowWords p w j t
   pub marked : Occupied t (column w j) (row w j) (repeat p j) (rows p) t' b
 
 -- from its words as they were read
 pub turn-read : {partial : Bool} {p w t t' : List ℕ} {j c r step n : ℕ} {b : Bool} → Member p j → Passed partial p w j → looked partial w j ≡ true
-    → own_fault p j (column w j) (row w j) ≡ Clear → RowWords p w j t → c ≡ column w j → r ≡ row w j → step ≡ repeat p j → n ≡ rows p → Occupied t c r step n t' b
+    → own_fault p j (column w j) (row w j) ≡ Ok tt → RowWords p w j t → c ≡ column w j → r ≡ row w j → step ≡ repeat p j → n ≡ rows p → Occupied t c r step n t' b
     → Turn partial p w j t t' b
 turn-read m a l e g ec er es en o = record { member = m; before = a; looked-at = l; own = e; words = g; marked = rw (ec, er, es, en) at o }
 
@@ -136,31 +135,31 @@ module _ {partial : Bool} {p w t t' : List ℕ} {j : ℕ} {b : Bool} (u : Turn p
   pub passed-more : b ≡ false → Passed partial p w (j + 1)
   unfolding fault
   passed-more h =
-      let clear : fault p w j ≡ Clear = rw u.own (unmet-clear p w j (some-none j (λ k. meets p w k j) (sym tells ∙ h))) in
+      let clear : fault p w j ≡ Ok tt = rw u.own (unmet-clear p w j (some-none j (λ k. meets p w k j) (sym tells ∙ h))) in
       record { each = below_more _ _ u.before.each (looked-fault partial p w j u.looked-at ∙ clear) }
 
   pub words-passed : RowWords p w (j + 1) t'
   words-passed = words_more u.member u.words u.marked
 
 -- ---- what the walk hands back
-pub walked-bad : {g : Fault} {p w t : List ℕ} {q : Refusal} → Bad q ≡ g → Walked g p w t (Bad q)
+pub walked-bad : {g : Fault} {p w t : List ℕ} {q : Refusal} → Err q ≡ g → Walked g p w t (Err q)
 walked-bad e = record { is = e; words = λ h. bad-not-clear h refl }
 
 module _ {partial : Bool} {p w t : List ℕ} {j m : ℕ} (a : Passed partial p w j) where
-  pub all-clear : RowWords p w j t → m ≡ messages p → j ≡ m → Walked (first_fault m (fault_in partial p w)) p w t Clear
+  pub all-clear : RowWords p w j t → m ≡ messages p → j ≡ m → Walked (first_fault m (fault_in partial p w)) p w t (Ok tt)
   all-clear g em q = record { is = sym (first-clear m (fault_in partial p w) (rw q at a.each)); words = λ e. rw (q ∙ em) at g }
 
   -- the first fault is that of message j
-  first-here : {q : Refusal} → j < m → looked partial w j ≡ true → fault p w j ≡ Bad q → Walked (first_fault m (fault_in partial p w)) p w t (Bad q)
+  first-here : {q : Refusal} → j < m → looked partial w j ≡ true → fault p w j ≡ Err q → Walked (first_fault m (fault_in partial p w)) p w t (Err q)
   first-here {q} l k e = walked-bad (sym (first-at m (fault_in partial p w) j q l a.each (looked-fault partial p w j k ∙ e)))
 
-  pub own_first : {f : Fault} {q : Refusal} → j < m → looked partial w j ≡ true → Own p w j f → f ≡ Bad q → Walked (first_fault m (fault_in partial p w)) p w t (Bad q)
+  pub own_first : {f : Fault} {q : Refusal} → j < m → looked partial w j ≡ true → Own p w j f → f ≡ Err q → Walked (first_fault m (fault_in partial p w)) p w t (Err q)
   unfolding fault
   own_first l k e h = first-here l k (rw (← e.is, h))
 
   -- of a meeting the lowest earlier message is named
-  pub met-first : {i : ℕ} {b : Bool} → j < m → looked partial w j ≡ true → own_fault p j (column w j) (row w j) ≡ Clear → Unmet p w i j → i < j → b ≡ meets p w i j → b ≡ true
-      → Walked (first_fault m (fault_in partial p w)) p w t (Bad (Meeting j i))
+  pub met-first : {i : ℕ} {b : Bool} → j < m → looked partial w j ≡ true → own_fault p j (column w j) (row w j) ≡ Ok tt → Unmet p w i j → i < j → b ≡ meets p w i j → b ≡ true
+      → Walked (first_fault m (fault_in partial p w)) p w t (Err (Meeting j i))
   unfolding fault meeting_fault
   met-first {i} l k own n h e met =
       let lowest = first-at j (λ k. guard (meets p w k j) (Meeting j k)) i (Meeting j i) h (λ g h. rw (n.none g h)) (rw (← e, met)) in
@@ -168,14 +167,14 @@ module _ {partial : Bool} {p w t : List ℕ} {j m : ℕ} (a : Passed partial p w
 
 -- ---- the number of words comes first
 module _ (p w : List ℕ) {n : ℕ} (en : n ≡ proposal_words p) where
-  other_length : (length w ≡ n → ⊥) → (g : Fault) → Bad ProposalLength ≡ guard (not (eqb (length w) (proposal_words p))) ProposalLength ⊕ g
+  other_length : (length w ≡ n → ⊥) → (g : Fault) → Err ProposalLength ≡ guard (not (eqb (length w) (proposal_words p))) ProposalLength ⊕ g
   other_length h g = rw (ne_eqb (length w) (proposal_words p) (rw en at h))
 
   right-length : length w ≡ n → (g : Fault) → g ≡ guard (not (eqb (length w) (proposal_words p))) ProposalLength ⊕ g
   right-length h g = rw (eq-eqb (length w) (proposal_words p) (rw en at h))
 
   -- of a whole proposal every message is looked at
-  pub other-proposal : (length w ≡ n → ⊥) → Bad ProposalLength ≡ proposal_fault p w
+  pub other-proposal : (length w ≡ n → ⊥) → Err ProposalLength ≡ proposal_fault p w
   unfolding proposal_fault
   other-proposal h = other_length h (first_fault (messages p) (fault p w))
 
@@ -185,7 +184,7 @@ module _ (p w : List ℕ) {n : ℕ} (en : n ≡ proposal_words p) where
       (rw em at d.is) ∙ first-same (messages p) (fault_in false p w) (fault p w) (λ k l. looked-fault false p w k refl) ∙ right-length h _
 
   -- of placements to keep those that are kept
-  pub other-kept : {t : List ℕ} → (length w ≡ n → ⊥) → Walked (kept_fault p w) p w t (Bad ProposalLength)
+  pub other-kept : {t : List ℕ} → (length w ≡ n → ⊥) → Walked (kept_fault p w) p w t (Err ProposalLength)
   unfolding kept_fault
   other-kept h = walked-bad (other_length h (first_fault (messages p) (fault_in true p w)))
 

@@ -1,9 +1,7 @@
 -- What is wrong with a file and a proposal for it, and what is accepted: a well-formed problem and a proposal without a fault.
-use Rattle.std.specs.Prelude.{ℕ, ◌≡◌, List}
-use Rattle.rules.specs.declared.Fault.{Fault}
-use Rattle.rules.specs.declared.Fault.TheVariants.{Clear}
+use Rattle.std.specs.Prelude.{ℕ, ◌≡◌, List, Ok}
 use Rattle.rules.specs.Problem.{WellFormed}
-use Rattle.rules.specs.Refusal.{◌⊕◌}
+use Rattle.rules.specs.Refusal.{◌⊕◌, Fault}
 use Rattle.rules.specs.Tests.{proposal_fault}
 use Rattle.problem.specs.File.{words_of}
 use Rattle.problem.specs.Wrong.{file_fault}
@@ -14,4 +12,4 @@ check_fault f w = file_fault f ⊕ proposal_fault (words_of f) w
 
 pub record Accepted (p w : List ℕ) : Type 0 where
   pub formed : WellFormed p
-  pub faultless : proposal_fault p w ≡ Clear
+  pub faultless : proposal_fault p w ≡ Ok tt

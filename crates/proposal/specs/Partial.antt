@@ -1,10 +1,8 @@
 -- What is wrong with placements to keep: only the messages that the list keeps are tested, among themselves.
-use Rattle.std.specs.Prelude.{ℕ, ◌≡◌, Bool, true, false, not, List, eqb, length}
-use Rattle.rules.specs.declared.Fault.{Fault}
-use Rattle.rules.specs.declared.Fault.TheVariants.{Clear}
+use Rattle.std.specs.Prelude.{ℕ, ◌≡◌, Bool, true, false, not, List, eqb, length, Ok}
 use Rattle.rules.specs.declared.Refusal.TheVariants.{ProposalLength}
 use Rattle.rules.specs.Problem.{messages, proposal_words}
-use Rattle.rules.specs.Refusal.{guard, ◌⊕◌, first_fault}
+use Rattle.rules.specs.Refusal.{guard, ◌⊕◌, first_fault, Fault}
 use Rattle.rules.specs.Tests.{fault}
 use Rattle.kept.specs.Kept.{keeps}
 use Rattle.row_words.specs.RowWords.{RowWords}
@@ -12,7 +10,7 @@ use Rattle.row_words.specs.RowWords.{RowWords}
 -- the fault of a message that is tested
 abbrev pub tested : Bool → Fault → Fault
 tested true f = f
-tested false f = Clear
+tested false f = Ok tt
 
 -- of a list that may leave messages out only those that it keeps are looked at
 abbrev pub looked : Bool → List ℕ → ℕ → Bool
@@ -30,7 +28,7 @@ kept_fault p k = guard (not (eqb (length k) (proposal_words p))) ProposalLength 
 -- f is the fault g that a test of w is to find, and where there is none the words t say which cells its messages have
 pub record Walked (g : Fault) (p w t : List ℕ) (f : Fault) : Type 0 where
   pub is : f ≡ g
-  pub words : f ≡ Clear → RowWords p w (messages p) t
+  pub words : f ≡ Ok tt → RowWords p w (messages p) t
 
 -- placements k to keep are tested, and the words t are handed to the caller, who plans the other messages around them
 abbrev pub KeptTested : List ℕ → List ℕ → List ℕ → Fault → Type 0

@@ -6,8 +6,6 @@ use native.Mathlib.Omega.{arith}
 use borrow.Author.Tests.{lt-ltb, le-ltb}
 use lib.ListN.{length, take, drop}
 use lib.Seq.{take_at, length-take-le}
-use Rattle.rules.specs.declared.Fault.{Fault}
-use Rattle.rules.specs.declared.Fault.TheVariants.{Clear, Bad}
 use Rattle.rules.specs.declared.Refusal.{Refusal}
 use Rattle.rules.specs.declared.Refusal.TheVariants.{Room}
 use Rattle.problem.specs.declared.layout.Layout.{Layout}
@@ -20,37 +18,37 @@ use Rattle.rules.specs.Rules.{words_fault}
 use Rattle.problem.proofs.File.{length-words}
 use Rattle.problem.proofs.Wrong.{Head, file-rest, file-formed}
 use Rattle.problem.proofs.Callers.{recast-length}
-use Rattle.reader.specs.declared.answer.Read.{Read}
-use Rattle.reader.specs.declared.answer.Read.TheVariants.{Problem, Refused}
 use Rattle.rules.proofs.Told.{answers-refused, answers-done}
-use Rattle.reader.specs.Answer.{paper, count_of, refusal}
 use Rattle.reader.specs.Promise.{Answered, Laid, Opened, Decoded, Reading}
 use Rattle.reader.specs.Parts.{Sized}
+use Rattle.std.specs.Prelude.{Err, Ok}
+use Rattle.rules.specs.Refusal.{Fault}
+use Rattle.rules.specs.Paper.{Answer, count_of, paper}
 
 pub head-sized : {L : Layout} (f : List ℕ) (k m : ℕ) → Head f → L ≡ layout_in f → k ≡ columns_in f → m ≡ messages_in f → Sized L f k m
 head-sized f k m h l p q =
     record { columns-are = p; messages-are = q; bytes = rw (l, p, q) h.bytes; columns-most = omega arith; messages-most = omega arith }
 
 -- ---- an answer is a refusal or so many words
-module _ {x : Fault} {P : ℕ → Type 0} {r : Read} where
-  pub answered-bad : (q : Refusal) → r ≡ Refused q → x ≡ Bad q → Answered x P r
+module _ {x : Fault} {P : ℕ → Type 0} {r : Answer} where
+  pub answered-bad : (q : Refusal) → r ≡ Err q → x ≡ Err q → Answered x P r
   answered-bad q e h = record {
     refuses = λ u s. h ∙ cc;
     opens = λ n s. absurd (let z : ◌≡◌ {A = ℕ} 0 1 = cc in omega arith);
   }
 
-  pub answered-words : (n : ℕ) → r ≡ Problem n → P n → Answered x P r
+  pub answered-words : (n : ℕ) → r ≡ Ok n → P n → Answered x P r
   answered-words n e h = record {
     refuses = λ q s. absurd (let z : ◌≡◌ {A = ℕ} 0 1 = cc in omega arith);
     opens = λ i s. let i-is : n ≡ i = cc in rw (← i-is) h;
   }
 
 -- a refusal that is handed on
-pub refused-is : {x : Fault} {P : ℕ → Type 0} {r : Read} {q t : Refusal} → Answered x P r → r ≡ Refused q → t ≡ refusal r → x ≡ Bad t
-refused-is {q = q} h is t-is = h.refuses q is ∙ ap Bad (sym (t-is ∙ ap refusal is))
+pub refused-is : {x : Fault} {P : ℕ → Type 0} {r : Answer} {q t : Refusal} → Answered x P r → r ≡ Err q → t ≡ refusal r → x ≡ Err t
+refused-is {q = q} h is t-is = h.refuses q is ∙ ap Err (sym (t-is ∙ ap refusal is))
 
 -- the words of a file with k columns and m messages, which are n, stand in front of the buffer e
-pub laid : {L : Layout} (f w e : List ℕ) (k m n : ℕ) → head_fault f ≡ Clear → L ≡ layout_in f → Sized L f k m → most_words ≤ length e
+pub laid : {L : Layout} (f w e : List ℕ) (k m n : ℕ) → head_fault f ≡ Ok tt → L ≡ layout_in f → Sized L f k m → most_words ≤ length e
     → e ≡ words_in L f ++ drop (words_for k m) w → n ≡ words_for k m → Laid f e n
 unfolding words_in
 laid f w e k m n clear layout s l read n-is =
@@ -75,12 +73,12 @@ module _ {f e : List ℕ} {n : ℕ} (a : Laid f e n) {x : Fault} (tested : x ≡
   fault-is : file_fault f ≡ x
   fault-is = file-rest f _ x a.clear a.front tested
 
-  pub decoded-bad : {r : Read} {q : Refusal} → r ≡ Refused q → x ≡ Bad q → Decoded f e r
+  pub decoded-bad : {r : Answer} {q : Refusal} → r ≡ Err q → x ≡ Err q → Decoded f e r
   decoded-bad {q = q} is h = answered-bad q is (fault-is ∙ h)
 
-  pub decoded-clear : {r : Read} → r ≡ Problem n → x ≡ Clear → Decoded f e r
+  pub decoded-clear : {r : Answer} → r ≡ Ok n → x ≡ Ok tt → Decoded f e r
   decoded-clear is h =
-      let c : file_fault f ≡ Clear = fault-is ∙ h in
+      let c : file_fault f ≡ Ok tt = fault-is ∙ h in
       answered-words n is record { clear = c; within = a.within; front = a.front; formed = rw a.front (file-formed f c) }
 
 -- the words in front of a buffer that holds a problem are as many as the answer says
@@ -103,7 +101,7 @@ opened-said {f} o ek em =
 
 -- ---- the caller's own buffer
 module _ (f d b : List ℕ) where
-  pub reading-refused : (r : Read) (q : Refusal) → Decoded f b r → r ≡ Refused q → Reading f d d r
+  pub reading-refused : (r : Answer) (q : Refusal) → Decoded f b r → r ≡ Err q → Reading f d d r
   reading-refused r q h e = answers-refused q (ap paper e) (ap count_of e) (rw (h.refuses q e))
 
   -- what callers see of the words, where t are said of each column
@@ -112,8 +110,8 @@ module _ (f d b : List ℕ) where
     unfolding words_in
     said-are = recast-length 3 (column_words (layout_in f)) (words_of f) (file-formed f o.clear).words ∙ rw (ec, et, ek, em)
 
-    pub reading-short : length d < c → Reading f d d (Refused Room)
+    pub reading-short : length d < c → Reading f d d (Err Room)
     reading-short l = answers-refused Room refl refl (rw (o.clear, said-are, lt-ltb (length d) c l))
 
-    pub reading-done : {e : List ℕ} → c ≤ length d → e ≡ recast 3 t (take n b) ++ drop (said_for t k m) d → Reading f d e (Problem c)
+    pub reading-done : {e : List ℕ} → c ≤ length d → e ≡ recast 3 t (take n b) ++ drop (said_for t k m) d → Reading f d e (Ok c)
     reading-done l w = answers-done refl refl (rw (o.clear, said-are, le-ltb (length d) c l)) said-are (w ∙ rw (o.front, ec, et))

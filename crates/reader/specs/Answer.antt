@@ -1,21 +1,19 @@
 -- Each answer of the reader in the paper's terms, and how many words it wrote.
-use Rattle.std.specs.Prelude.{ℕ}
+use Rattle.std.specs.Prelude.{ℕ, Err, Ok}
 use Rattle.rules.specs.declared.Refusal.{Refusal}
 use Rattle.rules.specs.declared.Refusal.TheVariants.{Length}
 use Rattle.rules.specs.declared.Paper.{Paper}
-use Rattle.rules.specs.Paper.{done, refused}
-use Rattle.reader.specs.declared.answer.Read.{Read}
-use Rattle.reader.specs.declared.answer.Read.TheVariants.{Problem, Refused}
+use Rattle.rules.specs.Paper.{done, refused, Answer}
 
-abbrev pub paper : Read → Paper
-paper (Problem n) = done
-paper (Refused q) = refused q
+abbrev pub paper : Answer → Paper
+paper (Ok n) = done
+paper (Err q) = refused q
 
-abbrev pub count_of : Read → ℕ
-count_of (Problem n) = n
-count_of (Refused q) = 0
+abbrev pub count_of : Answer → ℕ
+count_of (Ok n) = n
+count_of (Err q) = 0
 
 -- the refusal of an answer that is one
-abbrev pub refusal : Read → Refusal
-refusal (Problem n) = Length
-refusal (Refused q) = q
+abbrev pub refusal : Answer → Refusal
+refusal (Ok n) = Length
+refusal (Err q) = q

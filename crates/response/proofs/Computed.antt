@@ -14,11 +14,8 @@ use Rattle.basics.proofs.Sums.{sum_same}
 use Rattle.basics.specs.Runs.{tab}
 use Rattle.rules.specs.declared.Refusal.{Refusal}
 use Rattle.rules.specs.declared.Refusal.TheVariants.{Endless}
-use Rattle.rules.specs.declared.Fault.{Fault}
-use Rattle.rules.specs.declared.Fault.TheVariants.{Clear, Bad}
-use Rattle.rules.specs.Refusal.{guard, first_fault}
+use Rattle.rules.specs.Refusal.{guard, first_fault, Fault}
 use Rattle.rules.proofs.Faults.{clear-guard, clear_first, first-same}
-use Rattle.response.specs.declared.Responded.TheVariants.{Done, Refused}
 use Rattle.response.specs.declared.times.Worst.{Worst}
 use Rattle.response.specs.Events.{longest_period, count, period, jitter, deadline, Sound, events_fault}
 use Rattle.response.specs.Times.{takes, blocking, arrivals, demand, load, longest_busy, endless, Response, Written}
@@ -28,9 +25,9 @@ use Rattle.response.proofs.Faults.{clear-sound, ready-clear, call-rest}
 use Rattle.response.proofs.Figures.{member}
 use Rattle.response.proofs.Turns.{left}
 use Rattle.response.proofs.Spans.{Spanning, spanning-start, spanning-next, spanning-falls, spanning-found, spanning-none, span-ends, found_some}
-use Rattle.response.proofs.Waiting.{Timing, Waiting, Found, waiting-start, waiting-next, waiting-later, next-falls, later-falls, instance-here}
-use Rattle.response.proofs.Waiting.{found-start, found-more, found-above, found_all, sought-met, sought-missed, sought-worst}
+use Rattle.response.proofs.Waiting.{Timing, Waiting, Found, waiting-start, waiting-next, waiting-later, next-falls, later-falls, instance-here, found-start, found-more, found-above, found_all, sought-met, sought-missed, sought-worst}
 use Rattle.response.proofs.Results.{responding-done, responding-refused}
+use Rattle.std.specs.Prelude.{Err, Ok}
 
 -- what a test chooses has a property that it has either way
 chosen : {A : Type 0} (P : A → Type 0) (b : Bool) {x y : A} → (b ≡ true → P x) → (b ≡ false → P y) → P (elim b [ true ↦ x | false ↦ y ])
@@ -153,7 +150,7 @@ module _ (e : List ℕ) (sound : Sound e) where
   unfolding spans_fault
   spans-fault = first-same (count e) _ _ (λ j l. ap (λ (b : Bool). guard b (Endless j)) (none_is (span-found (member sound l))))
 
-  span-clear : spans_fault e ≡ Clear → (i : ℕ) → i < count e → Span e i (span e i)
+  span-clear : spans_fault e ≡ Ok tt → (i : ℕ) → i < count e → Span e i (span e i)
   unfolding spans_fault
   span-clear h i l = found_some (eqb-false _ _ (clear-guard _ _ (clear_first (count e) _ h i l))) (span-found (member sound l))
 
@@ -163,7 +160,7 @@ abbrev pub longest : List ℕ → ℕ → Worst
 longest e i = worst e i (span e i) (longest_busy + longest_period)
 
 pub computed-response :
-    (e : List ℕ) (i : ℕ) {r : Worst} → events_fault e ≡ Clear → spans_fault e ≡ Clear → i < count e → longest e i ≡ r →
+    (e : List ℕ) (i : ℕ) {r : Worst} → events_fault e ≡ Ok tt → spans_fault e ≡ Ok tt → i < count e → longest e i ≡ r →
     Response e i r.span r.instance r.response
 computed-response e i f h l q =
     let s = clear-sound e f in
@@ -172,7 +169,7 @@ computed-response e i f h l q =
     rw (← q) (sought-worst m t (worst-sought m t (longest_busy + longest_period)) (omega arith))
 
 -- a refusal for want of a busy period
-pub computed-endless : (e d : List ℕ) {q : Refusal} → events_fault e ≡ Clear → spans_fault e ≡ Bad q → Responding e d d (Refused q)
+pub computed-endless : (e d : List ℕ) {q : Refusal} → events_fault e ≡ Ok tt → spans_fault e ≡ Err q → Responding e d d (Err q)
 computed-endless e d f h =
     let s = clear-sound e f in
     responding-refused e d (call-rest e (length d) (sym f) refl (sym h ∙ spans-fault e s) refl refl refl) refl
@@ -212,7 +209,7 @@ module _ (e d : List ℕ) (room : count e ≤ length d) where
       ∙ get_or-drop (count e) d (i - count e) 0
       ∙ ap (λ (n : ℕ). get_or d n 0) m
 
-  written : Sound e → spans_fault e ≡ Clear → TimesWritten e d (times e ++ drop (count e) d) (count e)
+  written : Sound e → spans_fault e ≡ Ok tt → TimesWritten e d (times e ++ drop (count e) d) (count e)
   written s h = record {
     as_long = let q = long in length-append (times e) (drop (count e) d) ∙ rw (long, length-drop) (omega arith);
     each = λ i l. subst (λ (t : ℕ). Written e i t) (sym (front i l ∙ at i l)) (time-written (member s l) (span-clear e s h i l));
@@ -223,8 +220,8 @@ module _ (e d : List ℕ) (room : count e ≤ length d) where
   counted = sum_same (count e) _ _ (λ i l. ap miss (sym (front i l)))
 
   pub computed :
-      {x : List ℕ} {m : ℕ} → events_fault e ≡ Clear → spans_fault e ≡ Clear → times e ++ drop (count e) d ≡ x → zeros (times e) (count e) ≡ m →
-      Responding e d x (Done m)
+      {x : List ℕ} {m : ℕ} → events_fault e ≡ Ok tt → spans_fault e ≡ Ok tt → times e ++ drop (count e) d ≡ x → zeros (times e) (count e) ≡ m →
+      Responding e d x (Ok m)
   computed {x} {m} f h p q =
       let s = clear-sound e f in
       let ready : Ready e (length d) = record { sound = s; ended = λ i l. span-ends (span-clear e s h i l); fits = room } in

@@ -10,22 +10,20 @@ use borrow.Author.Tests.{lt-ltb, le-ltb, lt-leb, eq-eqb, ne_eqb, eqb-true, eqb-f
 use Rattle.basics.proofs.Tests.{or-false, within, inside, some-off, some-none}
 use Rattle.rules.specs.declared.Refusal.{Refusal}
 use Rattle.rules.specs.declared.Refusal.TheVariants.{EventWords, Event, Endless, Room}
-use Rattle.rules.specs.declared.Fault.{Fault}
-use Rattle.rules.specs.declared.Fault.TheVariants.{Clear, Bad}
-use Rattle.rules.specs.Refusal.{◌⊕◌, first_fault}
+use Rattle.rules.specs.Refusal.{◌⊕◌, first_fault, Fault}
 use Rattle.rules.specs.Paper.{room_fault}
 use Rattle.rules.proofs.Faults.{clear-guard, clear_both, first-clear, clear_first}
-use Rattle.response.specs.Events.{event_words, most_words, longest_period, count, identifier, size, period, jitter, deadline, Rules, Whole, Sound}
-use Rattle.response.specs.Events.{fields_wrong, repeated, event_wrong, words_wrong, event_fault, events_fault}
+use Rattle.response.specs.Events.{event_words, most_words, longest_period, count, identifier, size, period, jitter, deadline, Rules, Whole, Sound, fields_wrong, repeated, event_wrong, words_wrong, event_fault, events_fault}
 use Rattle.response.specs.Times.{endless}
 use Rattle.response.specs.Promise.{endless_fault, call_fault}
 use Rattle.response.specs.Parts.{Ready}
+use Rattle.std.specs.Prelude.{Err, Ok}
 
 -- ---- the code's steps
-pub room-bad : {n room : ℕ} → room < n → Bad Room ≡ room_fault n room
+pub room-bad : {n room : ℕ} → room < n → Err Room ≡ room_fault n room
 room-bad {n} {room} l = rw (lt-ltb room n l)
 
-pub room-clear : {n room : ℕ} → n ≤ room → Clear ≡ room_fault n room
+pub room-clear : {n room : ℕ} → n ≤ room → Ok tt ≡ room_fault n room
 room-clear {n} {room} l = rw (le-ltb room n l)
 
 -- from the words as they were read
@@ -36,20 +34,20 @@ pub wrong-is :
 unfolding event_wrong
 wrong-is e j i s t w d fields again = rw (fields, again, i, s, t, w, d)
 
-pub fault-bad : (e : List ℕ) (j : ℕ) → event_wrong e j ≡ true → event_fault e j ≡ Bad (Event j)
+pub fault-bad : (e : List ℕ) (j : ℕ) → event_wrong e j ≡ true → event_fault e j ≡ Err (Event j)
 fault-bad e j h = rw h
 
-pub fault-clear : (e : List ℕ) (j : ℕ) → event_wrong e j ≡ false → event_fault e j ≡ Clear
+pub fault-clear : (e : List ℕ) (j : ℕ) → event_wrong e j ≡ false → event_fault e j ≡ Ok tt
 fault-clear e j h = rw h
 
-pub endless-bad : (e : List ℕ) (j : ℕ) → endless e j ≡ true → endless_fault e j ≡ Bad (Endless j)
+pub endless-bad : (e : List ℕ) (j : ℕ) → endless e j ≡ true → endless_fault e j ≡ Err (Endless j)
 endless-bad e j h = rw h
 
-pub endless-clear : (e : List ℕ) (j : ℕ) → endless e j ≡ false → endless_fault e j ≡ Clear
+pub endless-clear : (e : List ℕ) (j : ℕ) → endless e j ≡ false → endless_fault e j ≡ Ok tt
 endless-clear e j h = rw h
 
 module _ (e : List ℕ) where
-  pub events-words : words_wrong (length e) ≡ true → Bad EventWords ≡ events_fault e
+  pub events-words : words_wrong (length e) ≡ true → Err EventWords ≡ events_fault e
   unfolding events_fault
   events-words h = rw h
 
@@ -58,12 +56,12 @@ module _ (e : List ℕ) where
   events-each h q = rw h q
 
   module _ (room : ℕ) {f : Fault} (is : f ≡ events_fault e) where
-    pub call-events : {q : Refusal} → f ≡ Bad q → Bad q ≡ call_fault e room
+    pub call-events : {q : Refusal} → f ≡ Err q → Err q ≡ call_fault e room
     unfolding call_fault
     call-events h = rw (← is, h)
 
     -- where the events have none, it is the first of the other two
-    pub call-rest : {g h r : Fault} {n : ℕ} → f ≡ Clear → g ≡ first_fault (count e) (endless_fault e) → n ≡ count e → h ≡ room_fault n room → r ≡ g ⊕ h → r ≡ call_fault e room
+    pub call-rest : {g h r : Fault} {n : ℕ} → f ≡ Ok tt → g ≡ first_fault (count e) (endless_fault e) → n ≡ count e → h ≡ room_fault n room → r ≡ g ⊕ h → r ≡ call_fault e room
     unfolding call_fault
     call-rest c g n h r = r ∙ rw (← is, c, g, h, n)
 
@@ -112,7 +110,7 @@ module _ (e : List ℕ) where
         some-off j (λ i. eqb (identifier e i) (identifier e j)) (λ i l. ne_eqb _ _ (r.unlike-earlier i l)),
       )
 
-  pub clear-sound : events_fault e ≡ Clear → Sound e
+  pub clear-sound : events_fault e ≡ Ok tt → Sound e
   unfolding events_fault
   clear-sound h =
       let p = clear_both _ _ h in
@@ -121,7 +119,7 @@ module _ (e : List ℕ) where
         rules = λ j l. clear-rules j (clear-guard _ _ (clear_first _ _ p.1 j l));
       }
 
-  pub sound-clear : Sound e → events_fault e ≡ Clear
+  pub sound-clear : Sound e → events_fault e ≡ Ok tt
   unfolding events_fault
   sound-clear s =
       rw (
@@ -129,11 +127,11 @@ module _ (e : List ℕ) where
         first-clear (count e) (event_fault e) (λ j l. fault-clear e j (rules-clear j (s.rules j l))),
       )
 
-  pub ended-clear : ((j : ℕ) → j < count e → endless e j ≡ false) → first_fault (count e) (endless_fault e) ≡ Clear
+  pub ended-clear : ((j : ℕ) → j < count e → endless e j ≡ false) → first_fault (count e) (endless_fault e) ≡ Ok tt
   ended-clear h = first-clear (count e) (endless_fault e) (λ j l. endless-clear e j (h j l))
 
   module _ (room : ℕ) where
-    pub clear-ready : call_fault e room ≡ Clear → Ready e room
+    pub clear-ready : call_fault e room ≡ Ok tt → Ready e room
     unfolding call_fault
     clear-ready h =
         let p = clear_both _ _ h in
@@ -144,5 +142,5 @@ module _ (e : List ℕ) where
           fits = ltb-false _ _ (clear-guard _ _ q.1);
         }
 
-    pub ready-clear : Ready e room → call_fault e room ≡ Clear
+    pub ready-clear : Ready e room → call_fault e room ≡ Ok tt
     ready-clear r = sym (call-rest e room (sym (sound-clear r.sound)) refl (sym (ended-clear r.ended)) refl (room-clear r.fits) refl)

@@ -12,7 +12,6 @@ use borrow.Author.Tests.{ltb-true}
 use Rattle.basics.proofs.Tests.{not-both}
 use Rattle.rules.specs.declared.Refusal.{Refusal}
 use Rattle.rules.specs.declared.Refusal.TheVariants.{EventWords, Event, Endless, Room}
-use Rattle.rules.specs.declared.Fault.TheVariants.{Bad}
 use Rattle.rules.specs.Refusal.{guard, ◌⊕◌, first_fault}
 use Rattle.rules.specs.Paper.{room_fault}
 use Rattle.rules.proofs.Faults.{clear-guard, bad-guard, bad-either, first-at, bad-first, clear_first}
@@ -20,10 +19,10 @@ use Rattle.response.specs.Events.{count, Rules, Whole, Sound, event_wrong, words
 use Rattle.response.specs.Times.{Busy, longest_busy, endless}
 use Rattle.response.specs.Promise.{endless_fault, call_fault}
 use Rattle.response.specs.Parts.{Span}
-use Rattle.response.proofs.Faults.{fault-bad, fault-clear, endless-bad, endless-clear, events-words, events-each, ended-clear, room-bad, call-events, call-rest}
-use Rattle.response.proofs.Faults.{clear_whole, whole-clear, clear-rules, rules-clear, clear-sound, sound-clear}
+use Rattle.response.proofs.Faults.{fault-bad, fault-clear, endless-bad, endless-clear, events-words, events-each, ended-clear, room-bad, call-events, call-rest, clear_whole, whole-clear, clear-rules, rules-clear, clear-sound, sound-clear}
 use Rattle.response.proofs.Figures.{member}
 use Rattle.response.proofs.Spans.{span-ends, ends-span}
+use Rattle.std.specs.Prelude.{Err}
 
 -- why a call with so much room is refused
 pub data Because (e : List ℕ) (room : ℕ) : Refusal → Type 0 where
@@ -45,7 +44,7 @@ module _ (e : List ℕ) where
   broken-wrong j h = on _ (λ q. h (clear-rules e j q))
 
   module _ (room : ℕ) where
-    events-because : {q : Refusal} → events_fault e ≡ Bad q → Because e room q
+    events-because : {q : Refusal} → events_fault e ≡ Err q → Because e room q
     unfolding events_fault
     events-because {q} h =
         elim (bad-either (guard (words_wrong (length e)) EventWords) (first_fault (count e) (event_fault e)) h) [
@@ -76,7 +75,7 @@ module _ (e : List ℕ) where
     longer-endless s j l h =
         on _ (λ q. let x = ends s j l q in let a = h x.0 x.1.busy in let b = x.1.most in absurd (omega arith))
 
-    pub because : {q : Refusal} → call_fault e room ≡ Bad q → Because e room q
+    pub because : {q : Refusal} → call_fault e room ≡ Err q → Because e room q
     unfolding call_fault
     because {q} h =
         elim (bad-either (events_fault e) (first_fault (count e) (endless_fault e) ⊕ room_fault (count e) room) h) [
@@ -97,7 +96,7 @@ module _ (e : List ℕ) where
               ]
         ]
 
-    pub refuses : {q : Refusal} → Because e room q → call_fault e room ≡ Bad q
+    pub refuses : {q : Refusal} → Because e room q → call_fault e room ≡ Err q
     refuses (not-whole h) = sym (call-events e room (events-words e (on _ (λ q. h (clear_whole e q)))) refl)
     refuses (first-wrong j w l b h) =
         let first = first-at (count e) (event_fault e) j (Event j) l (λ i k. fault-clear e i (rules-clear e i (b i k))) (fault-bad e j (broken-wrong j h)) in

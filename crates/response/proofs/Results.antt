@@ -7,14 +7,9 @@ use native.Mathlib.Omega.{arith}
 use lib.ListN.{length, get_or}
 use lib.Seq.{ext_get_or}
 use Rattle.rules.specs.declared.Refusal.{Refusal}
-use Rattle.rules.specs.declared.Fault.{Fault}
-use Rattle.rules.specs.declared.Fault.TheVariants.{Clear, Bad}
-use Rattle.rules.specs.Paper.{figure_for}
+use Rattle.rules.specs.Paper.{figure_for, Answer, count_of, paper}
 use Rattle.rules.specs.declared.Paper.{Paper}
 use Rattle.rules.proofs.Told.{Told, answered, refusing, told-one, done-clear}
-use Rattle.response.specs.declared.Responded.{Responded}
-use Rattle.response.specs.declared.Responded.TheVariants.{Done, Refused}
-use Rattle.response.specs.Answer.{paper, misses}
 use Rattle.response.specs.Events.{count}
 use Rattle.response.specs.Times.{Written, met, missed}
 use Rattle.response.specs.Promise.{call_fault, zeros, TimesWritten, Responding}
@@ -22,17 +17,19 @@ use Rattle.response.specs.Parts.{Ready}
 use Rattle.response.proofs.Faults.{clear-ready}
 use Rattle.response.proofs.Instances.{response-one}
 use Rattle.response.proofs.Filling.{times_none}
+use Rattle.std.specs.Prelude.{Err, Ok}
+use Rattle.rules.specs.Refusal.{Fault}
 
 -- ---- the code's two ends, with the fault that it found
 module _ (e d : List ℕ) {f : Fault} (is : f ≡ call_fault e (length d)) where
-  pub responding-refused : {q : Refusal} → f ≡ Bad q → Responding e d d (Refused q)
+  pub responding-refused : {q : Refusal} → f ≡ Err q → Responding e d d (Err q)
   responding-refused {q} h = record {
     paper-is = rw (← is, h);
     misses-is = rw (← is, h);
     times-are = rw (← is, h) (times_none e d);
   }
 
-  pub responding-done : {x : List ℕ} {m : ℕ} → f ≡ Clear → TimesWritten e d x (count e) → m ≡ zeros x (count e) → Responding e d x (Done m)
+  pub responding-done : {x : List ℕ} {m : ℕ} → f ≡ Ok tt → TimesWritten e d x (count e) → m ≡ zeros x (count e) → Responding e d x (Ok m)
   responding-done h t z = record { paper-is = rw (← is, h); misses-is = rw (← is, h) z; times-are = rw (← is, h) t }
 
 -- ---- the word of an event is settled
@@ -54,21 +51,21 @@ module _ {e d x y : List ℕ} {n : ℕ} (a : TimesWritten e d x n) (b : TimesWri
   pub times-one : x ≡ y
   times-one = ext_get_or 0 x y (a.as_long ∙ sym b.as_long) (λ i l. word-one i)
 
-told : (r : Responded) → Told Done Refused r (paper r) (misses r)
-told (Done m) = answered m
-told (Refused q) = refusing q 0
+told : (r : Answer) → Told Ok Err r (paper r) (count_of r)
+told (Ok m) = answered m
+told (Err q) = refusing q 0
 
 -- two results that the promise allows are equal
-pub responding-one : {e d x y : List ℕ} {r s : Responded} → Responding e d x r → Responding e d y s → (r ≡ s) × (x ≡ y)
+pub responding-one : {e d x y : List ℕ} {r s : Answer} → Responding e d x r → Responding e d y s → (r ≡ s) × (x ≡ y)
 responding-one {e} {d} {x} {y} {r} {s} a b =
     let same : x ≡ y = times-one a.times-are b.times-are in
     let figure : List ℕ → ℕ = λ l. figure_for (call_fault e (length d)) (zeros l (count e)) in
     (told-one (told r) (told s) (a.paper-is ∙ sym b.paper-is) (a.misses-is ∙ ap figure same ∙ sym b.misses-is), same)
 
 -- a refusal leaves the buffer as it was
-pub refused-keeps : {e d x : List ℕ} {r : Responded} {q : Refusal} → call_fault e (length d) ≡ Bad q → Responding e d x r → x ≡ d
+pub refused-keeps : {e d x : List ℕ} {r : Answer} {q : Refusal} → call_fault e (length d) ≡ Err q → Responding e d x r → x ≡ d
 refused-keeps {e} {d} h p = times-one (rw h at p.times-are) (times_none e d)
 
 -- a call that is done had events that keep the rules and have busy periods, and room
-pub responding-ready : {e d x : List ℕ} {m : ℕ} → Responding e d x (Done m) → Ready e (length d)
+pub responding-ready : {e d x : List ℕ} {m : ℕ} → Responding e d x (Ok m) → Ready e (length d)
 responding-ready {e} {d} p = clear-ready e (length d) (done-clear (call_fault e (length d)) (ap (λ (t : Paper). t.number) (sym p.paper-is)))

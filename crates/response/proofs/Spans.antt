@@ -16,9 +16,7 @@ use Rattle.basics.proofs.Steps.{stays, rises}
 use Rattle.basics.proofs.Tests.{some_at, some-on, some-off, not-both}
 use Rattle.rules.specs.declared.Refusal.{Refusal}
 use Rattle.rules.specs.declared.Refusal.TheVariants.{Endless}
-use Rattle.rules.specs.declared.Fault.{Fault}
-use Rattle.rules.specs.declared.Fault.TheVariants.{Clear, Bad}
-use Rattle.rules.specs.Refusal.{◌⊕◌, first_fault}
+use Rattle.rules.specs.Refusal.{◌⊕◌, first_fault, Fault}
 use Rattle.rules.specs.Paper.{room_fault}
 use Rattle.rules.proofs.Faults.{first-at, bad-not-clear, clear_both}
 use Rattle.response.specs.Events.{count, period, jitter, events_fault}
@@ -28,6 +26,7 @@ use Rattle.response.specs.Parts.{Member, Span, Spans, BusyOr0, busy, none, Noted
 use Rattle.response.proofs.Faults.{endless-bad, endless-clear, ended-clear, call-rest}
 use Rattle.response.proofs.Queue.{ceiling-some, load_step, load-rises}
 use Rattle.response.proofs.Turns.{left, left-falls, left-first}
+use Rattle.std.specs.Prelude.{Err, Ok}
 
 module _ {e : List ℕ} {i : ℕ} (m : Member e i) where
   -- in any span the event comes at least once
@@ -144,22 +143,22 @@ spans-more {e} {s} {n} {t} f room here = record {
 pub span-at : {e s : List ℕ} {n i t : ℕ} → Spans e s n → i < n → t ≡ get_or s i 0 → Span e i t
 span-at f l q = rw q (f.each _ l)
 
-pub noted-bad : {e s : List ℕ} {x : Fault} {q : Refusal} → Bad q ≡ x → Noted e s x (Bad q)
+pub noted-bad : {e s : List ℕ} {x : Fault} {q : Refusal} → Err q ≡ x → Noted e s x (Err q)
 noted-bad h = record { fault-is = h; spans = λ z. bad-not-clear z refl }
 
 -- at the first event without one, and at the end
 module _ {e s : List ℕ} {n : ℕ} (f : Spans e s n) where
-  pub noted-none : n < count e → endless e n ≡ true → Noted e s (first_fault (count e) (endless_fault e)) (Bad (Endless n))
+  pub noted-none : n < count e → endless e n ≡ true → Noted e s (first_fault (count e) (endless_fault e)) (Err (Endless n))
   noted-none l h = noted-bad (sym (first-at (count e) (endless_fault e) n (Endless n) l (λ k m. endless-clear e k (span-ends (f.each k m))) (endless-bad e n h)))
 
-  pub noted-all : n ≡ count e → Noted e s (first_fault (count e) (endless_fault e)) Clear
+  pub noted-all : n ≡ count e → Noted e s (first_fault (count e) (endless_fault e)) (Ok tt)
   noted-all h =
       let all : Spans e s (count e) = subst (Spans e s) h f in
       record { fault-is = sym (ended-clear e (λ k m. span-ends (all.each k m))); spans = λ q. all }
 
 -- of a call, where the events themselves have no fault
 pub noted-rest :
-    (e s : List ℕ) (room : ℕ) {n : ℕ} {f g h r : Fault} → f ≡ events_fault e → f ≡ Clear →
+    (e s : List ℕ) (room : ℕ) {n : ℕ} {f g h r : Fault} → f ≡ events_fault e → f ≡ Ok tt →
     Noted e s (first_fault (count e) (endless_fault e)) g → n ≡ count e → h ≡ room_fault n room → r ≡ g ⊕ h → Noted e s (call_fault e room) r
 noted-rest e s room {g = g} {h = h} is c noted n k q = record {
   fault-is = call-rest e room is c noted.fault-is n k q;

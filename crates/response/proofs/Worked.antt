@@ -7,20 +7,20 @@ use Rattle.basics.specs.Tests.{some}
 use Rattle.basics.specs.Sums.{sum, largest}
 use Rattle.rules.specs.declared.Refusal.TheVariants.{Event, Endless}
 use Rattle.rules.specs.Refusal.{first_fault}
-use Rattle.response.specs.declared.Responded.TheVariants.{Done, Refused}
 use Rattle.response.specs.Events.{repeated, event_wrong, events_fault}
 use Rattle.response.specs.Times.{Response}
 use Rattle.response.specs.Promise.{call_fault, Responding}
 use Rattle.response.proofs.Results.{responding-refused}
 use Rattle.response.proofs.Computed.{climb, span, worse, seek, worst, time, times, spans_fault, computed, computed-response, computed-endless}
+use Rattle.std.specs.Prelude.{Err, Ok}
 
 -- no events: nothing is written, and none is missed
-pub no-events : (d : List ℕ) → Responding [] d d (Done 0)
+pub no-events : (d : List ℕ) → Responding [] d d (Ok 0)
 unfolding events_fault spans_fault first_fault sum times
 no-events d = computed [] d (omega arith) refl refl refl refl
 
 -- the same identifier twice, and no room: the later event is at fault, before the room is
-pub twice : Responding (7 ∷ 0 ∷ 100 ∷ 0 ∷ 100 ∷ 7 ∷ 0 ∷ 100 ∷ 0 ∷ 100 ∷ []) [] [] (Refused (Event 1))
+pub twice : Responding (7 ∷ 0 ∷ 100 ∷ 0 ∷ 100 ∷ 7 ∷ 0 ∷ 100 ∷ 0 ∷ 100 ∷ []) [] [] (Err (Event 1))
 unfolding call_fault events_fault event_wrong repeated some first_fault
 twice = responding-refused (7 ∷ 0 ∷ 100 ∷ 0 ∷ 100 ∷ 7 ∷ 0 ∷ 100 ∷ 0 ∷ 100 ∷ []) [] refl refl
 
@@ -36,15 +36,15 @@ second-instance = computed-response (three 440) 2 refl refl (omega arith) refl
 -- in a buffer of three words or more
 module _ (a b c : ℕ) (rest : List ℕ) where
   -- a deadline of 440 is missed: 0 there, and one miss
-  pub one-missed : Responding (three 440) (a ∷ b ∷ c ∷ rest) (270 ∷ 405 ∷ 0 ∷ rest) (Done 1)
+  pub one-missed : Responding (three 440) (a ∷ b ∷ c ∷ rest) (270 ∷ 405 ∷ 0 ∷ rest) (Ok 1)
   unfolding events_fault spans_fault event_wrong repeated some first_fault sum largest climb span worse seek worst time times
   one-missed = computed (three 440) (a ∷ b ∷ c ∷ rest) (omega arith) refl refl refl refl
 
-  pub all-met : Responding (three 475) (a ∷ b ∷ c ∷ rest) (270 ∷ 405 ∷ 470 ∷ rest) (Done 0)
+  pub all-met : Responding (three 475) (a ∷ b ∷ c ∷ rest) (270 ∷ 405 ∷ 470 ∷ rest) (Ok 0)
   unfolding events_fault spans_fault event_wrong repeated some first_fault sum largest climb span worse seek worst time times
   all-met = computed (three 475) (a ∷ b ∷ c ∷ rest) (omega arith) refl refl refl refl
 
--- seven messages of 8 bytes at 25 kbit/s, where 1 ms is 25 bit times and a frame's 5,4 ms are 135; the seventh misses its deadline
+-- seven messages of 8 bytes at 25 kbit/s, where 1 ms is 25 bit times and a frame's 5,4 ms are 135; the seventh count_of its deadline
 abbrev pub seven : List ℕ
 seven =
     1 ∷ 8 ∷ 2000 ∷ 0 ∷ 2000
@@ -57,7 +57,7 @@ seven =
     ∷ []
 
 -- 10,8 16,2 21,6 27,0 32,4 and 37,8 ms, as by the first instances alone
-pub table-1 : Responding seven (0 ∷ 0 ∷ 0 ∷ 0 ∷ 0 ∷ 0 ∷ 0 ∷ []) (270 ∷ 405 ∷ 540 ∷ 675 ∷ 810 ∷ 945 ∷ 0 ∷ []) (Done 1)
+pub table-1 : Responding seven (0 ∷ 0 ∷ 0 ∷ 0 ∷ 0 ∷ 0 ∷ 0 ∷ []) (270 ∷ 405 ∷ 540 ∷ 675 ∷ 810 ∷ 945 ∷ 0 ∷ []) (Ok 1)
 unfolding events_fault spans_fault event_wrong repeated some first_fault sum largest climb span worse seek worst time times
 table-1 = computed seven (0 ∷ 0 ∷ 0 ∷ 0 ∷ 0 ∷ 0 ∷ 0 ∷ []) (omega arith) refl refl refl refl
 
@@ -69,11 +69,11 @@ pub never-free : Response one 0 55 0 55
 unfolding events_fault spans_fault event_wrong repeated some first_fault sum largest climb span worse seek worst
 never-free = computed-response one 0 refl refl (omega arith) refl
 
-pub one-met : (a : ℕ) (rest : List ℕ) → Responding one (a ∷ rest) (55 ∷ rest) (Done 0)
+pub one-met : (a : ℕ) (rest : List ℕ) → Responding one (a ∷ rest) (55 ∷ rest) (Ok 0)
 unfolding events_fault spans_fault event_wrong repeated some first_fault sum largest climb span worse seek worst time times
 one-met a rest = computed one (a ∷ rest) (omega arith) refl refl refl refl
 
 -- two frames of 55 every 100 are more than the bus carries: the second event has no busy period, which comes before the room
-pub too_many : (d : List ℕ) → Responding (1 ∷ 0 ∷ 100 ∷ 0 ∷ 100 ∷ 2 ∷ 0 ∷ 100 ∷ 0 ∷ 100 ∷ []) d d (Refused (Endless 1))
+pub too_many : (d : List ℕ) → Responding (1 ∷ 0 ∷ 100 ∷ 0 ∷ 100 ∷ 2 ∷ 0 ∷ 100 ∷ 0 ∷ 100 ∷ []) d d (Err (Endless 1))
 unfolding events_fault spans_fault event_wrong repeated some first_fault sum largest climb span
 too_many d = computed-endless (1 ∷ 0 ∷ 100 ∷ 0 ∷ 100 ∷ 2 ∷ 0 ∷ 100 ∷ 0 ∷ 100 ∷ []) d refl refl

@@ -1,14 +1,12 @@
--- The paper's number and place, and the misses, of each answer of the call.
-use Rattle.std.specs.Prelude.{ℕ}
+-- The paper's number and place, and the count_of, of each answer of the call.
+use Rattle.std.specs.Prelude.{ℕ, Err, Ok}
 use Rattle.rules.specs.declared.Paper.{Paper}
-use Rattle.rules.specs.Paper.{done, refused}
-use Rattle.response.specs.declared.Responded.{Responded}
-use Rattle.response.specs.declared.Responded.TheVariants.{Done, Refused}
+use Rattle.rules.specs.Paper.{done, refused, Answer}
 
-abbrev pub paper : Responded → Paper
-paper (Done m) = done
-paper (Refused q) = refused q
+abbrev pub paper : Answer → Paper
+paper (Ok m) = done
+paper (Err q) = refused q
 
-abbrev pub misses : Responded → ℕ
-misses (Done m) = m
-misses (Refused q) = 0
+abbrev pub count_of : Answer → ℕ
+count_of (Ok m) = m
+count_of (Err q) = 0

@@ -2,8 +2,7 @@
 use Rattle.std.specs.Prelude.{ℕ, ◌+◌, ◌*◌, ◌/◌, ◌%◌, ◌<◌, ◌≤◌, ◌≡◌, Bool, not, ◌||◌, List, length, get_or, ltb, leb, eqb}
 use Rattle.basics.specs.Tests.{outside, some}
 use Rattle.rules.specs.declared.Refusal.TheVariants.{EventWords, Event}
-use Rattle.rules.specs.declared.Fault.{Fault}
-use Rattle.rules.specs.Refusal.{guard, ◌⊕◌, first_fault}
+use Rattle.rules.specs.Refusal.{guard, ◌⊕◌, first_fault, Fault}
 
 -- ---- document 01's numbers
 -- so many words are an event

@@ -1,11 +1,10 @@
 -- What the parts of the call ask and hand each other, and how large the figures become.
-use Rattle.std.specs.Prelude.{ℕ, ◌+◌, ◌*◌, ◌<◌, ◌≤◌, ◌≡◌, true, false, List, get_or}
-use Rattle.rules.specs.declared.Fault.{Fault}
-use Rattle.rules.specs.declared.Fault.TheVariants.{Clear}
+use Rattle.std.specs.Prelude.{ℕ, ◌+◌, ◌*◌, ◌<◌, ◌≤◌, ◌≡◌, true, false, List, get_or, Ok}
 use Rattle.rules.specs.Problem.{frame}
 use Rattle.response.specs.declared.times.Worst.{Worst}
 use Rattle.response.specs.Events.{most_events, longest_period, count, Rules, Sound}
 use Rattle.response.specs.Times.{arrivals, Busy, longest_busy, endless, Instance, Response}
+use Rattle.rules.specs.Refusal.{Fault}
 
 -- j is one of the events e, which keep the rules
 pub record Member (e : List ℕ) (j : ℕ) : Type 0 where
@@ -37,7 +36,7 @@ pub data BusyOr0 (e : List ℕ) (i r : ℕ) : Type 0 where
 -- r is the fault x that was looked for; without one s begins with the busy periods of all events
 pub record Noted (e s : List ℕ) (x r : Fault) : Type 0 where
   pub fault-is : r ≡ x
-  pub spans : r ≡ Clear → Spans e s (count e)
+  pub spans : r ≡ Ok tt → Spans e s (count e)
 
 -- the events keep the rules and have busy periods, and there is room for so many times
 pub record Ready (e : List ℕ) (room : ℕ) : Type 0 where

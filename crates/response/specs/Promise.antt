@@ -2,11 +2,8 @@
 use Rattle.std.specs.Prelude.{ℕ, ◌<◌, ◌≤◌, ◌≡◌, List, length, get_or, eqb}
 use Rattle.basics.specs.Sums.{sum, only}
 use Rattle.rules.specs.declared.Refusal.TheVariants.{Endless}
-use Rattle.rules.specs.declared.Fault.{Fault}
-use Rattle.rules.specs.Refusal.{guard, ◌⊕◌, first_fault}
-use Rattle.rules.specs.Paper.{paper_of, figure_for, room_fault}
-use Rattle.response.specs.declared.Responded.{Responded}
-use Rattle.response.specs.Answer.{paper, misses}
+use Rattle.rules.specs.Refusal.{guard, ◌⊕◌, first_fault, Fault}
+use Rattle.rules.specs.Paper.{paper, figure_for, room_fault, Answer, count_of}
 use Rattle.response.specs.Events.{count, events_fault}
 use Rattle.response.specs.Times.{endless, Written}
 
@@ -33,7 +30,7 @@ pub record TimesWritten (e d x : List ℕ) (n : ℕ) : Type 0 where
   pub kept : (i : ℕ) → n ≤ i → get_or x i 0 ≡ get_or d i 0
 
 -- ---- the promise: the events e are answered with r, and the buffer d then is x; with a refusal no time is written, so that the buffer is kept
-pub record Responding (e d x : List ℕ) (r : Responded) : Type 0 where
-  pub paper-is : paper r ≡ paper_of (call_fault e (length d))
-  pub misses-is : misses r ≡ figure_for (call_fault e (length d)) (zeros x (count e))
+pub record Responding (e d x : List ℕ) (r : Answer) : Type 0 where
+  pub paper-is : paper r ≡ paper (call_fault e (length d))
+  pub misses-is : count_of r ≡ figure_for (call_fault e (length d)) (zeros x (count e))
   pub times-are : TimesWritten e d x (figure_for (call_fault e (length d)) (count e))

@@ -4,11 +4,11 @@ use mathlib.Core.Path.{◌≡◌, sym, ap, ap₂, ◌∙◌}
 use mathlib.Core.List.{List}
 use native.Mathlib.Omega.{arith}
 use lib.ListN.{get_or}
-use Rattle.rules.specs.declared.Fault.TheVariants.{Clear}
 use Rattle.rules.specs.Problem.{rows, cycle, columns, column_at, message_at, start, field, frame, lasts, repeat, column, row}
 use Rattle.rules.specs.Tests.{wait, common, own_fault}
 use Rattle.rules.proofs.Meaning.{own_alone, alone-own, Meets}
 use Rattle.rest.specs.Part.{count_at, message_words, Part}
+use Rattle.std.specs.Prelude.{Ok}
 
 -- a wait by the words that it goes by
 wait_by : (r : ℕ) {b b' s s' t t' o o' : ℕ} → b ≡ b' → s ≡ s' → t ≡ t' → o ≡ o' → (r * b + s + t - o) % t ≡ (r * b' + s' + t' - o') % t'
@@ -55,7 +55,7 @@ module _ {p m : List ℕ} {n : ℕ} {q : List ℕ} (P : Part p m n q) where
 
   -- ---- a message by itself has no fault in the one exactly where it has none in the other
   module _ (s c r : ℕ) (l : s < n) where
-    pub own-part : own_fault q s c r ≡ Clear → own_fault p (get_or m s 0) c r ≡ Clear
+    pub own-part : own_fault q s c r ≡ Ok tt → own_fault p (get_or m s 0) c r ≡ Ok tt
     own-part e =
         let a = own_alone q s c r e in
         let h : c < columns p = omega (arith, a.placed.column-below, part-columns) in
@@ -65,7 +65,7 @@ module _ {p m : List ℕ} {n : ℕ} {q : List ℕ} (P : Part p m n q) where
           timely = omega (arith, a.timely, part-wait s c r l h, part-lasts s l, part_field s 6 l (omega arith));
         }
 
-    pub part-own : own_fault p (get_or m s 0) c r ≡ Clear → own_fault q s c r ≡ Clear
+    pub part-own : own_fault p (get_or m s 0) c r ≡ Ok tt → own_fault q s c r ≡ Ok tt
     part-own e =
         let a = own_alone p (get_or m s 0) c r e in
         let h = a.placed.column-below in

@@ -10,7 +10,6 @@ use lib.Dec.{leb, ltb, eqb}
 use lib.ListN.{get_or}
 use borrow.Author.Tests.{eq-eqb, ne_eqb, not-true, not-false}
 use Rattle.basics.proofs.Tests.{true-T, parts}
-use Rattle.rules.specs.declared.Fault.TheVariants.{Clear, Bad}
 use Rattle.rules.specs.declared.Refusal.TheVariants.{Range, Width, Late}
 use Rattle.rules.specs.Problem.{column_at, message_at, cycle, columns, start, width, field, period, offset, deadline, lasts, repeat, column, row, Placed, WellFormed}
 use Rattle.rules.specs.Tests.{in_range, fits, wait, timely, common, meets, own_fault}
@@ -18,6 +17,7 @@ use Rattle.rules.specs.Parts.{Member, Start, Width as WidthIs, Period, Repeat, F
 use Rattle.rules.proofs.Digits.{mod-once}
 use Rattle.rules.proofs.Bounds.{period-is, repeat-least, repeat-most}
 use Rattle.rules.proofs.Columns.{in-cycle}
+use Rattle.std.specs.Prelude.{Err, Ok}
 
 -- words of a column and of a message, read where they stand
 module _ {p : List ℕ} {c a r : ℕ} (wf : WellFormed p) (l : c < columns p) (at : a ≡ column_at c) where
@@ -99,20 +99,20 @@ module _ {p : List ℕ} {i j : ℕ} (mi : Member p i) (mj : Member p j) (w : Lis
 
 -- the fault of a message by itself, test by test
 module _ {p : List ℕ} {j : ℕ} (m : Member p j) (c r : ℕ) {a : Bool} (ea : a ≡ in_range p j c r) where
-  pub own_range : not a ≡ true → Bad (Range j) ≡ own_fault p j c r
+  pub own_range : not a ≡ true → Err (Range j) ≡ own_fault p j c r
   unfolding own_fault
   own_range t = rw (← ea, not-true a t)
 
   module _ (ta : not a ≡ false) {b : Bool} (eb : b ≡ fits p j c) where
-    pub own-width : not b ≡ true → Bad (Width j) ≡ own_fault p j c r
+    pub own-width : not b ≡ true → Err (Width j) ≡ own_fault p j c r
     unfolding own_fault
     own-width t = rw (← ea, not-false a ta, ← eb, not-true b t)
 
     module _ (tb : not b ≡ false) {d : Bool} (ed : d ≡ timely p j c r) where
-      pub own-late : not d ≡ true → Bad (Late j) ≡ own_fault p j c r
+      pub own-late : not d ≡ true → Err (Late j) ≡ own_fault p j c r
       unfolding own_fault
       own-late t = rw (← ea, not-false a ta, ← eb, not-false b tb, ← ed, not-true d t)
 
-      pub own-clear : not d ≡ false → Clear ≡ own_fault p j c r
+      pub own-clear : not d ≡ false → Ok tt ≡ own_fault p j c r
       unfolding own_fault
       own-clear t = rw (← ea, not-false a ta, ← eb, not-false b tb, ← ed, not-false d t)

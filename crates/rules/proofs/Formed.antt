@@ -15,11 +15,11 @@ use Rattle.basics.specs.Tests.{outside, some}
 use Rattle.basics.proofs.Bits.{bit-two}
 use Rattle.basics.proofs.Tests.{left, right, within, inside, or-false, and-true, either, some_at, some-on, some-off, some-none}
 use Rattle.rules.specs.Problem.{rows, cycle, ref_len, ref_id, limit, columns, messages, start, width, kind, identifier, sender, size, receivers, period, offset, deadline, word_count, earliest, nodes, triggers, Header, Column, Identity, Timing, WellFormed}
-use Rattle.rules.specs.declared.Fault.TheVariants.{Clear}
 use Rattle.rules.specs.declared.Refusal.TheVariants.{Header as BadHeader, Identity as BadIdentity}
 use Rattle.rules.specs.Refusal.{is_clear, guard, first_fault}
 use Rattle.rules.specs.Rules.{is_row_count, header_fault, column_wrong, repeated, identity_wrong, on_grid, timing_wrong, overloaded, column_fault, message_fault, node_fault, words_fault}
 use Rattle.rules.proofs.Faults.{clear-is, clear-guard, clear_both, clear-test, clear_first, first-clear}
+use Rattle.std.specs.Prelude.{Ok}
 
 positive : {n : ℕ} → (n ≡ 0 → ⊥) → 1 ≤ n
 positive h = omega arith
@@ -56,11 +56,11 @@ rows-of-power (suc (suc (suc (suc (suc (suc (suc k))))))) l = absurd (omega arit
 
 module _ (p : List ℕ) where
   -- ---- the header
-  pub header-kept : (header_fault p ≡ Clear) ↔ Header p
+  pub header-kept : (header_fault p ≡ Ok tt) ↔ Header p
   unfolding header_fault
   header-kept = (stated, tested)
     where
-      stated : header_fault p ≡ Clear → Header p
+      stated : header_fault p ≡ Ok tt → Header p
       stated e =
           let b = clear_both (guard (not (is_row_count (rows p))) (BadHeader _)) _ e in
           let f = clear_both (guard (outside (cycle p) 1 65535) (BadHeader _)) _ b.1 in
@@ -89,7 +89,7 @@ module _ (p : List ℕ) where
             messages-most = ltb-false _ _ (clear-guard _ _ m.1);
           }
 
-      tested : Header p → header_fault p ≡ Clear
+      tested : Header p → header_fault p ≡ Ok tt
       tested h =
           let r : is_row_count (rows p) ≡ true = rw h.rows_is (rows-of-power h.rows-power (small_power h.rows-power (omega (arith, h.rows_is, h.rows-most)))) in
           rw (
@@ -218,10 +218,10 @@ module _ (p : List ℕ) where
   triggers-kept n = (λ e. ltb-false _ _ e, λ h. le-ltb (limit p) (triggers p n) h)
 
   -- ---- and all of them
-  message-parts : (j : ℕ) → message_fault p j ≡ Clear → (identity_wrong p j ≡ false) × (timing_wrong p j ≡ false)
+  message-parts : (j : ℕ) → message_fault p j ≡ Ok tt → (identity_wrong p j ≡ false) × (timing_wrong p j ≡ false)
   message-parts j e = let a = clear_both (guard (identity_wrong p j) (BadIdentity j)) _ e in (clear-guard _ _ a.0, clear-guard _ _ a.1)
 
-  pub words-formed : Header p → length p ≡ word_count p → words_fault p ≡ Clear → WellFormed p
+  pub words-formed : Header p → length p ≡ word_count p → words_fault p ≡ Ok tt → WellFormed p
   unfolding words_fault
   words-formed h w e =
       let a = clear_both (first_fault (columns p) (column_fault p)) _ e in
@@ -235,13 +235,13 @@ module _ (p : List ℕ) where
         triggers-most = λ n l. (triggers-kept n).0 (clear-guard _ _ (clear_first _ _ b.1 n l));
       }
 
-  pub formed-words : WellFormed p → words_fault p ≡ Clear
+  pub formed-words : WellFormed p → words_fault p ≡ Ok tt
   unfolding words_fault
   formed-words f =
-      let a : first_fault (columns p) (column_fault p) ≡ Clear = first-clear _ _ λ c l. rw ((column-kept c).1 (f.column c l)) in
-      let b : first_fault (messages p) (message_fault p) ≡ Clear =
+      let a : first_fault (columns p) (column_fault p) ≡ Ok tt = first-clear _ _ λ c l. rw ((column-kept c).1 (f.column c l)) in
+      let b : first_fault (messages p) (message_fault p) ≡ Ok tt =
       first-clear _ _ λ j l. rw ((identity-kept j).1 (f.identity j l), (timing-kept f.header j).1 (f.timing j l)) in
-      let d : first_fault nodes (node_fault p) ≡ Clear = first-clear _ _ λ n l. rw ((triggers-kept n).1 (f.triggers-most n l)) in
+      let d : first_fault nodes (node_fault p) ≡ Ok tt = first-clear _ _ λ n l. rw ((triggers-kept n).1 (f.triggers-most n l)) in
       rw (a, b, d)
 
   -- ---- computed, as one test

@@ -9,12 +9,12 @@ use lib.Dec.{eqb}
 use lib.ListN.{length}
 use Rattle.rules.specs.declared.Refusal.{Refusal}
 use Rattle.rules.specs.declared.Refusal.TheVariants.{ProposalLength, Range, Width, Late, Meeting}
-use Rattle.rules.specs.declared.Fault.TheVariants.{Bad}
 use Rattle.rules.specs.Problem.{messages, proposal_words, column, row}
 use Rattle.rules.specs.Paper.{refused}
 use Rattle.rules.specs.Refusal.{guard}
 use Rattle.rules.specs.Tests.{in_range, fits, timely, meets, own_fault, meeting_fault, fault, Stand, proposal_fault}
 use Rattle.rules.proofs.Faults.{clear-guard, bad-guard, bad-either, bad-first}
+use Rattle.std.specs.Prelude.{Err}
 
 pub record Met (p w : List ℕ) (j i : ℕ) : Type 0 where
   pub among : j < messages p
@@ -28,11 +28,11 @@ named {j = j} {i = i} {k = k} {l = l} e m = let ej : j ≡ k = cc in let ei : i 
 
 module _ (p w : List ℕ) {j i : ℕ} where
   -- a test of a lower number finds no meeting
-  pub lower : {P : Type 0} (b : Bool) (r : Refusal) → (refused r).number < 13 → guard b r ≡ Bad (Meeting j i) → P
+  pub lower : {P : Type 0} (b : Bool) (r : Refusal) → (refused r).number < 13 → guard b r ≡ Err (Meeting j i) → P
   lower b r l e = absurd (let n : 13 ≡ (refused r).number = ap (λ (q : Refusal). (refused q).number) (bad-guard b r e).1 in omega arith)
 
   -- so a message by itself has none
-  pub not_own : {P : Type 0} (l : ℕ) → own_fault p l (column w l) (row w l) ≡ Bad (Meeting j i) → P
+  pub not_own : {P : Type 0} (l : ℕ) → own_fault p l (column w l) (row w l) ≡ Err (Meeting j i) → P
   unfolding own_fault
   not_own l e =
       elim (bad-either (guard (not (in_range p l (column w l) (row w l))) (Range l)) _ e) [
@@ -44,7 +44,7 @@ module _ (p w : List ℕ) {j i : ℕ} where
             ]
       ]
 
-  pub met-lowest : proposal_fault p w ≡ Bad (Meeting j i) → Met p w j i
+  pub met-lowest : proposal_fault p w ≡ Err (Meeting j i) → Met p w j i
   unfolding proposal_fault fault meeting_fault
   met-lowest e =
       elim (bad-either (guard (not (eqb (length w) (proposal_words p))) ProposalLength) _ e) [

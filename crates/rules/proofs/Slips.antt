@@ -6,12 +6,10 @@ use mathlib.Core.List.{List, [], ◌∷◌}
 use Rattle.basics.specs.Bits.{bit}
 use Rattle.basics.specs.Sums.{sum}
 use Rattle.basics.specs.Tests.{every, some}
-use Rattle.rules.specs.declared.Fault.{Fault}
-use Rattle.rules.specs.declared.Fault.TheVariants.{Clear, Bad}
 use Rattle.rules.specs.declared.Refusal.TheVariants.{Width, Late, Meeting}
 use Rattle.rules.specs.Problem.{earliest, triggers, column, row, InRange}
 use Rattle.rules.specs.Sends.{Acceptable}
-use Rattle.rules.specs.Refusal.{first_fault}
+use Rattle.rules.specs.Refusal.{first_fault, Fault}
 use Rattle.rules.specs.Tests.{in_range, fits, wait, timely, common, meets, own_fault, meeting_fault, fault, proposal_fault}
 use Rattle.rules.specs.Rules.{header_fault, column_wrong, repeated, identity_wrong, on_grid, timing_wrong, overloaded, words_fault}
 use Rattle.rules.proofs.Formed.{is_formed, is-formed}
@@ -19,6 +17,7 @@ use Rattle.basics.proofs.Tests.{every-at}
 use Rattle.rules.proofs.Faults.{bad-not-clear}
 use Rattle.rules.proofs.Meaning.{range-placed}
 use Rattle.rules.proofs.Exact.{exact}
+use Rattle.std.specs.Prelude.{Err, Ok}
 
 -- T1, with the deadline of message 32 and the offset of message 48
 t1 : ℕ → ℕ → List ℕ
@@ -59,7 +58,7 @@ table : (
     ∷ seen (t1 300 0) (0 ∷ 0 ∷ 1 ∷ 1 ∷ 1 ∷ 1 ∷ [])
     ∷ []
     )
-    ≡ (Bad (Width 1) ∷ Clear ∷ Clear ∷ Bad (Meeting 1 0) ∷ Bad (Late 0) ∷ Clear ∷ Bad (Meeting 2 1) ∷ [])
+    ≡ (Err (Width 1) ∷ Ok tt ∷ Ok tt ∷ Err (Meeting 1 0) ∷ Err (Late 0) ∷ Ok tt ∷ Err (Meeting 2 1) ∷ [])
 unfolding seen
 table = refl
 

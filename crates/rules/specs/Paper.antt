@@ -1,11 +1,9 @@
 -- What an answer is in the paper's terms: its number and places, its figures, and what a lent buffer then holds.
-use Rattle.std.specs.Prelude.{ℕ, List, ◌++◌, ◌≡◌, ltb, length, drop}
+use Rattle.std.specs.Prelude.{ℕ, List, ◌++◌, ◌≡◌, ltb, length, drop, Result, Ok, Err}
 use Rattle.rules.specs.declared.Paper.{Paper}
 use Rattle.rules.specs.declared.Refusal.{Refusal}
 use Rattle.rules.specs.declared.Refusal.TheVariants.{Length, Mark, Version, Header, Column, Identity, Timing, Triggers, ProposalLength, Range, Width, Late, Meeting, NoPlan, TooMany, Room, EventWords, Event, Endless, Unheld, Log}
-use Rattle.rules.specs.declared.Fault.{Fault}
-use Rattle.rules.specs.declared.Fault.TheVariants.{Clear, Bad}
-use Rattle.rules.specs.Refusal.{guard}
+use Rattle.rules.specs.Refusal.{guard, Fault}
 
 abbrev pub between : ℕ → ℕ → ℕ → Paper
 between n j i = record { number = n; place = j; second = i }
@@ -41,24 +39,34 @@ refused (Endless j) = at 19 j
 refused (Unheld i) = at 20 i
 refused Log = at 24 0
 
--- ---- what a call answers for a fault
-abbrev pub paper_of : Fault → Paper
-paper_of Clear = done
-paper_of (Bad q) = refused q
+-- ---- an answer: done, whatever it has, or why it is refused
+abbrev pub paper : {A : Type 0} → Result A Refusal → Paper
+paper (Ok x) = done
+paper (Err q) = refused q
 
+-- how much a call wrote, or the refusal
+abbrev pub Answer : Type 0
+Answer = Result ℕ Refusal
+
+-- how much that is: 0 with a refusal
+abbrev pub count_of : Answer → ℕ
+count_of (Ok n) = n
+count_of (Err q) = 0
+
+-- ---- what a call answers for a fault
 -- a figure, and 0 with a refusal
 abbrev pub figure_for : Fault → ℕ → ℕ
-figure_for Clear x = x
-figure_for (Bad q) x = 0
+figure_for (Ok tt) x = x
+figure_for (Err q) x = 0
 
 -- the output w in front of what the buffer d held; a refusal writes nothing
 abbrev pub buffer_for : Fault → List ℕ → List ℕ → List ℕ
-buffer_for Clear w d = w ++ drop (length w) d
-buffer_for (Bad q) w d = d
+buffer_for (Ok tt) w d = w ++ drop (length w) d
+buffer_for (Err q) w d = d
 
 -- ---- a call that writes: the fault x, or else the output w, is answered with r; the buffer held d and then holds e
-pub record Answers {A : Type 0} (paper : A → Paper) (count_of : A → ℕ) (x : Fault) (w d e : List ℕ) (r : A) : Type 0 where
-  pub paper-is : paper r ≡ paper_of x
+pub record Answers (x : Fault) (w d e : List ℕ) (r : Answer) : Type 0 where
+  pub paper-is : paper r ≡ paper x
   pub count-is : count_of r ≡ figure_for x (length w)
   pub buffer-is : e ≡ buffer_for x w d
 

@@ -2,9 +2,8 @@
 use Rattle.std.specs.Prelude.{ℕ, suc, ◌+◌, ◌*◌, ◌^◌, Bool, ◌&&◌, ◌||◌, not, List, leb, ltb, eqb}
 use Rattle.basics.specs.Bits.{bit}
 use Rattle.basics.specs.Tests.{outside, some}
-use Rattle.rules.specs.declared.Fault.{Fault}
 use Rattle.rules.specs.declared.Refusal.TheVariants.{Header, Column, Identity, Timing, Triggers}
-use Rattle.rules.specs.Refusal.{guard, ◌⊕◌, first_fault}
+use Rattle.rules.specs.Refusal.{guard, ◌⊕◌, first_fault, Fault}
 use Rattle.rules.specs.Offsets.{rows_byte, cycle_byte, ref_len_byte, ref_id_byte, limit_byte, columns_byte, messages_byte}
 use Rattle.rules.specs.Problem.{rows, cycle, ref_len, ref_id, limit, columns, messages, start, width, kind, identifier, sender, size, receivers, period, offset, deadline, earliest, nodes, triggers}
 

@@ -16,9 +16,8 @@ use Rattle.basics.proofs.Tests.{left, right}
 use Rattle.rules.specs.Problem.{earliest, triggers, frame, proposal_words}
 use Rattle.rules.specs.Sends.{send_at}
 use Rattle.rules.specs.Refusal.{is_clear, first_fault}
-use Rattle.rules.specs.declared.Fault.TheVariants.{Clear}
 use Rattle.rules.specs.declared.Paper.{Paper}
-use Rattle.rules.specs.Paper.{between, paper_of}
+use Rattle.rules.specs.Paper.{between, paper}
 use Rattle.rules.specs.Rules.{header_fault, column_wrong, repeated, identity_wrong, on_grid, timing_wrong, overloaded, words_fault}
 use Rattle.rules.specs.Tests.{in_range, fits, wait, timely, common, meets, own_fault, meeting_fault, fault, proposal_fault}
 use Rattle.rules.proofs.Exact.{exact}
@@ -35,6 +34,7 @@ use Rattle.response.specs.Events.{count, repeated as repeated_event, event_wrong
 use Rattle.response.proofs.Computed.{climb, span, worse, seek as seek_worst, worst, time, times, spans_fault, computed}
 use Rattle.tables.specs.Cases.{Case, lasts, plans, plans-none, loses, accepts, refuses, unheld, responds, figures, Says}
 use Rattle.tables.specs.Starred.{t1_with, t1, two, none as no_message, events, starred}
+use Rattle.std.specs.Prelude.{Ok}
 
 -- ---- tests
 unfoldable same : List ℕ → List ℕ → Bool
@@ -86,8 +86,8 @@ holds (plans-none p) = is_formed p && is_none (run p)
 holds (loses p w a b c d e) =
     is_formed p && (is_clear (proposal_fault p w) && (eqb (reference p) a && (eqb (used p w) b && (eqb (window_loss p w) c && (eqb (empty p w) d && eqb (gaps p) e)))))
 holds (accepts p w) = is_formed p && is_clear (proposal_fault p w)
-holds (refuses p w n j i) = is_formed p && is_at (paper_of (proposal_fault p w)) n j i
-holds (unheld p n j) = is_at (paper_of (held_fault One p)) n j 0
+holds (refuses p w n j i) = is_formed p && is_at (paper (proposal_fault p w)) n j i
+holds (unheld p n j) = is_at (paper (held_fault One p)) n j 0
 holds (responds e t m) =
     is_clear (events_fault e) && (is_clear (spans_fault e) && (same (times e ++ drop (count e) (replicate (count e) 0)) t && eqb (zeros (times e) (count e)) m))
 
@@ -115,16 +115,16 @@ holds-says (loses p w a b c d e) t =
     let ec = eqb→eq (window_loss p w) c (left (eqb (window_loss p w) c) _ t₄) in
     let ed = eqb→eq (empty p w) d (left (eqb (empty p w) d) (eqb (gaps p) e) t₅) in
     let ee = eqb→eq (gaps p) e (right (eqb (empty p w) d) (eqb (gaps p) e) t₅) in
-    let are : FiguresAre Clear p w (figures a b c d e) = record { reference-is = sym ea; used-is = sym eb; in-window-is = sym ec; empty-is = sym ed; gaps-is = sym ee } in
+    let are : FiguresAre (Ok tt) p w (figures a b c d e) = record { reference-is = sym ea; used-is = sym eb; in-window-is = sym ec; empty-is = sym ed; gaps-is = sym ee } in
     (wf, are, figures-sum (record { formed = wf; faultless = fine }) are)
 holds-says (accepts p w) t =
     let wf = is-formed p (left (is_formed p) (is_clear (proposal_fault p w)) t) in
     let a = (exact p w wf).0 (clear-is (proposal_fault p w) (right (is_formed p) (is_clear (proposal_fault p w)) t)) in
     (wf, a.0, a.1)
 holds-says (refuses p w n j i) t =
-    let x : Paper = paper_of (proposal_fault p w) in
+    let x : Paper = paper (proposal_fault p w) in
     (is-formed p (left (is_formed p) (is_at x n j i) t), is-at x n j i (right (is_formed p) (is_at x n j i) t))
-holds-says (unheld p n j) t = is-at (paper_of (held_fault One p)) n j 0 t
+holds-says (unheld p n j) t = is-at (paper (held_fault One p)) n j 0 t
 holds-says (responds e t m) h =
     let d : List ℕ = replicate (count e) 0 in
     let x : List ℕ = times e ++ drop (count e) d in

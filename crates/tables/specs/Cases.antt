@@ -1,16 +1,14 @@
 -- What a starred case says: a statement about the definitions that the promises cite, never about code.
-use Rattle.std.specs.Prelude.{ℕ, ◌+◌, ◌≡◌, List, replicate}
+use Rattle.std.specs.Prelude.{ℕ, ◌+◌, ◌≡◌, List, replicate, Ok}
 use Rattle.rules.specs.Problem.{matrix, frame, InRange, WellFormed}
 use Rattle.rules.specs.Sends.{Acceptable}
-use Rattle.rules.specs.Paper.{at, between, paper_of}
+use Rattle.rules.specs.Paper.{at, between, paper}
 use Rattle.rules.specs.Tests.{proposal_fault}
-use Rattle.rules.specs.declared.Fault.TheVariants.{Clear}
 use Rattle.problem.specs.declared.layout.Layout.TheVariants.{One}
 use Rattle.problem.specs.Wrong.{held_fault}
 use Rattle.losses.specs.declared.BusTime.{BusTime}
 use Rattle.losses.specs.Losses.{FiguresAre}
 use Rattle.planner.specs.Least.{Plan, Least}
-use Rattle.response.specs.declared.Responded.TheVariants.{Done}
 use Rattle.response.specs.Events.{count}
 use Rattle.response.specs.Promise.{Responding}
 
@@ -38,8 +36,8 @@ abbrev pub Says : Case → Type 0
 Says (lasts s c) = frame s ≡ c
 Says (plans p w) = WellFormed p × Least p w
 Says (plans-none p) = WellFormed p × ((w : List ℕ) → ¬ Plan p w)
-Says (loses p w a b c d e) = WellFormed p × FiguresAre Clear p w (figures a b c d e) × (a + b + c + d + e ≡ matrix p)
+Says (loses p w a b c d e) = WellFormed p × FiguresAre (Ok tt) p w (figures a b c d e) × (a + b + c + d + e ≡ matrix p)
 Says (accepts p w) = WellFormed p × InRange p w × Acceptable p w
-Says (refuses p w n j i) = WellFormed p × (paper_of (proposal_fault p w) ≡ between n j i)
-Says (unheld p n j) = paper_of (held_fault One p) ≡ at n j
-Says (responds e t m) = Responding e (replicate (count e) 0) t (Done m)
+Says (refuses p w n j i) = WellFormed p × (paper (proposal_fault p w) ≡ between n j i)
+Says (unheld p n j) = paper (held_fault One p) ≡ at n j
+Says (responds e t m) = Responding e (replicate (count e) 0) t (Ok m)

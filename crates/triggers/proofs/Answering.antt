@@ -15,7 +15,6 @@ use Rattle.rules.specs.declared.Refusal.TheVariants.{Room}
 use Rattle.rules.specs.Problem.{most_triggers, messages, nodes, triggers, WellFormed}
 use Rattle.rules.proofs.Told.{answers-done}
 use Rattle.proposal.specs.Accepted.{Accepted}
-use Rattle.triggers.specs.declared.Listed.TheVariants.{Lists as Done, Refused}
 use Rattle.triggers.specs.Lists.{entry_words, Lists, size, most_words}
 use Rattle.triggers.specs.Order.{order, list_from, list_words, count_word, counts_of, lists_from, all_words}
 use Rattle.triggers.specs.Parts.{Ordered}
@@ -24,6 +23,7 @@ use Rattle.triggers.proofs.Determined.{lists-one}
 use Rattle.triggers.proofs.NodeLists.{list-for, length-for}
 use Rattle.triggers.proofs.Results.{lists-refused}
 use Rattle.triggers.proofs.Written.{length-entries}
+use Rattle.std.specs.Prelude.{Err, Ok}
 
 -- no well-formed problem has lists of more words
 pub size-most : {p : List ℕ} → WellFormed p → size p ≤ most_words
@@ -81,7 +81,7 @@ module _ {p w : List ℕ} (a : Accepted p w) where
 
   -- ---- what is answered
   module _ (d : List ℕ) {t : ℕ} (et : t ≡ sum nodes (triggers p)) where
-    pub room-refused : length d < nodes + entry_words * t → ListingAccepted p w d d (Refused Room)
+    pub room-refused : length d < nodes + entry_words * t → ListingAccepted p w d d (Err Room)
     unfolding size
     room-refused l = lists-refused Room (rw (lt-ltb (length d) (size p) (omega arith)))
 
@@ -89,7 +89,7 @@ module _ {p w : List ℕ} (a : Accepted p w) where
     unfolding size
     room-there l = omega arith
 
-    pub room-listed : {e : List ℕ} {r : ℕ} → nodes + entry_words * t ≤ length d → Put (all_words p w) d e r → ListingAccepted p w d e (Done r)
+    pub room-listed : {e : List ℕ} {r : ℕ} → nodes + entry_words * t ≤ length d → Put (all_words p w) d e r → ListingAccepted p w d e (Ok r)
     room-listed l h = record {
       lists = all_words p w;
       lists-are = λ _. written-lists;

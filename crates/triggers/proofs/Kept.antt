@@ -17,11 +17,11 @@ use Rattle.rules.specs.Problem.{nodes}
 use Rattle.rules.specs.Sends.{Source, reference, message}
 use Rattle.rules.proofs.Told.{answers-clear}
 use Rattle.problem.specs.File.{words_of}
-use Rattle.triggers.specs.declared.Listed.TheVariants.{Lists as Done}
 use Rattle.triggers.specs.Lists.{Entered, entry_words, entry, Before, by-mark, by_row, ListOf, entries, Lists}
 use Rattle.triggers.specs.Promise.{Listing}
 use Rattle.triggers.specs.Same.{SameTo, SameFor, count_in, list_in}
 use Rattle.triggers.proofs.Written.{length-entries}
+use Rattle.std.specs.Prelude.{Ok}
 
 -- ---- the order of entries by their words alone: by mark, then by row
 data Earlier (x y : List ℕ) : Type 0 where
@@ -155,7 +155,7 @@ record Front (p w e : List ℕ) : Type 0 where
   pub lists-are : Lists p w lists
   pub is : lists ++ rest ≡ e
 
-front : (f w d : List ℕ) {e : List ℕ} {r : ℕ} → Listing f w d e (Done r) → Front (words_of f) w e
+front : (f w d : List ℕ) {e : List ℕ} {r : ℕ} → Listing f w d e (Ok r) → Front (words_of f) w e
 front f w d h =
     let clear = (answers-clear refl refl h.answers).0 in
     record { lists = h.lists; rest = drop (length h.lists) d; lists-are = h.lists-are clear; is = sym (h.answers.buffer-is ∙ rw clear) }
@@ -171,6 +171,6 @@ fronts-kept {n = n} same l a b =
     rw (← a.is, ← b.is) (count, words)
 
 -- the theorem: where both calls answer with lists, a node for which nothing changed finds the same count and the same words in both buffers
-pub loaded-kept : (f w d g v b : List ℕ) {e c : List ℕ} {r s n : ℕ} → Listing f w d e (Done r) → Listing g v b c (Done s)
+pub loaded-kept : (f w d g v b : List ℕ) {e c : List ℕ} {r s n : ℕ} → Listing f w d e (Ok r) → Listing g v b c (Ok s)
     → SameFor (words_of f) w (words_of g) v n → n < nodes → (count_in e n ≡ count_in c n) × (list_in e n ≡ list_in c n)
 loaded-kept f w d g v b h k same l = fronts-kept same l (front f w d h) (front g v b k)

@@ -12,17 +12,16 @@ use lib.ListN.{get_or}
 use lib.Pow.{pow_mono}
 use Rattle.basics.specs.Bits.{bit}
 use Rattle.basics.proofs.Tests.{some-on, some-off}
-use Rattle.rules.specs.declared.Fault.{Fault}
-use Rattle.rules.specs.declared.Fault.TheVariants.{Clear, Bad}
 use Rattle.rules.specs.declared.Refusal.{Refusal}
 use Rattle.rules.specs.declared.Refusal.TheVariants.{Column, Identity, Timing, Triggers}
 use Rattle.basics.specs.Sums.{sum, only}
 use Rattle.basics.proofs.Sums.{sum-next}
-use Rattle.rules.specs.Refusal.{first_fault}
+use Rattle.rules.specs.Refusal.{first_fault, Fault}
 use Rattle.rules.specs.Problem.{message_at, limit, columns, messages, start, width, field, identifier, sender, receivers, earliest, sends, receives, nodes, triggers}
 use Rattle.rules.specs.Rules.{column_wrong, repeated, identity_wrong, on_grid, timing_wrong, overloaded, column_fault, message_fault, node_fault, words_fault}
 use Rattle.problem.specs.Parts.{Counted}
 use Rattle.wellformed.specs.Parts.{HasColumn, HasMessage}
+use Rattle.std.specs.Prelude.{Err, Ok}
 
 -- ---- periods
 pub power_small : (k p : ℕ) → k < 7 → p ≡ 2 ^ k → p ≤ 64
@@ -52,10 +51,10 @@ unfolding earliest
 earliest-next p c = rw (add-one c)
 
 module _ (p : List ℕ) (c : ℕ) where
-  pub column-clear : column_wrong p c ≡ false → column_fault p c ≡ Clear
+  pub column-clear : column_wrong p c ≡ false → column_fault p c ≡ Ok tt
   column-clear h = rw h
 
-  pub column-bad : column_wrong p c ≡ true → column_fault p c ≡ Bad (Column c)
+  pub column-bad : column_wrong p c ≡ true → column_fault p c ≡ Err (Column c)
   column-bad h = rw h
 
 pub has-column : {p : List ℕ} {k m c : ℕ} → Counted p k m → c < k → HasColumn p c
@@ -87,13 +86,13 @@ module _ (p : List ℕ) (j : ℕ) where
 
 -- ---- messages
 module _ (p : List ℕ) (j : ℕ) where
-  pub message-identity : identity_wrong p j ≡ true → message_fault p j ≡ Bad (Identity j)
+  pub message-identity : identity_wrong p j ≡ true → message_fault p j ≡ Err (Identity j)
   message-identity h = rw h
 
-  pub message-timing : identity_wrong p j ≡ false → timing_wrong p j ≡ true → message_fault p j ≡ Bad (Timing j)
+  pub message-timing : identity_wrong p j ≡ false → timing_wrong p j ≡ true → message_fault p j ≡ Err (Timing j)
   message-timing h t = rw (h, t)
 
-  pub message-clear : identity_wrong p j ≡ false → timing_wrong p j ≡ false → message_fault p j ≡ Clear
+  pub message-clear : identity_wrong p j ≡ false → timing_wrong p j ≡ false → message_fault p j ≡ Ok tt
   message-clear h t = rw (h, t)
 
 -- ---- triggers
@@ -113,25 +112,25 @@ unfolding triggers
 triggers-counted p n m count e h = rw (← e) h
 
 module _ (p : List ℕ) (n count : ℕ) (counted : count ≡ triggers p n) where
-  pub node-bad : limit p < count → node_fault p n ≡ Bad (Triggers n)
+  pub node-bad : limit p < count → node_fault p n ≡ Err (Triggers n)
   unfolding overloaded
   node-bad l = rw (← counted, lt-ltb _ _ l)
 
-  pub node-clear : count ≤ limit p → node_fault p n ≡ Clear
+  pub node-clear : count ≤ limit p → node_fault p n ≡ Ok tt
   unfolding overloaded
   node-clear l = rw (← counted, le-ltb _ _ l)
 
 -- ---- all words
 module _ (p : List ℕ) (k m : ℕ) (columns-are : k ≡ columns p) (messages-are : m ≡ messages p) where
-  pub words-of-columns : (x : Fault) (q : Refusal) → x ≡ first_fault k (column_fault p) → x ≡ Bad q → x ≡ words_fault p
+  pub words-of-columns : (x : Fault) (q : Refusal) → x ≡ first_fault k (column_fault p) → x ≡ Err q → x ≡ words_fault p
   unfolding words_fault
   words-of-columns x q e b = rw (← columns-are, ← e, b)
 
-  module _ (clear : first_fault k (column_fault p) ≡ Clear) where
-    pub words-of-messages : (x : Fault) (q : Refusal) → x ≡ first_fault m (message_fault p) → x ≡ Bad q → x ≡ words_fault p
+  module _ (clear : first_fault k (column_fault p) ≡ Ok tt) where
+    pub words-of-messages : (x : Fault) (q : Refusal) → x ≡ first_fault m (message_fault p) → x ≡ Err q → x ≡ words_fault p
     unfolding words_fault
     words-of-messages x q e b = rw (← columns-are, ← messages-are, clear, ← e, b)
 
-    pub words-of-nodes : (x : Fault) → first_fault m (message_fault p) ≡ Clear → x ≡ first_fault nodes (node_fault p) → x ≡ words_fault p
+    pub words-of-nodes : (x : Fault) → first_fault m (message_fault p) ≡ Ok tt → x ≡ first_fault nodes (node_fault p) → x ≡ words_fault p
     unfolding words_fault
     words-of-nodes x e n = rw (← columns-are, ← messages-are, clear, e) n

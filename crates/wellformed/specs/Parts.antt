@@ -1,8 +1,7 @@
 -- What the functions that test words ask of them and say.
 use Rattle.std.specs.Prelude.{ℕ, ◌+◌, ◌<◌, ◌≤◌, ◌≡◌, not, List, eqb, length}
-use Rattle.rules.specs.declared.Fault.{Fault}
 use Rattle.rules.specs.declared.Refusal.TheVariants.{Header}
-use Rattle.rules.specs.Refusal.{guard}
+use Rattle.rules.specs.Refusal.{guard, Fault}
 use Rattle.rules.specs.Problem.{column_at, message_at, columns, earliest}
 
 -- the fault of the header's number at byte b, where 0 is none

@@ -5,7 +5,6 @@ use mathlib.Core.List.{List, ◌++◌}
 use borrow.Author.Tests.{le-ltb}
 use lib.ListN.{length, drop}
 use Rattle.basics.proofs.Runs.{Small}
-use Rattle.rules.specs.declared.Fault.TheVariants.{Clear}
 use Rattle.rules.proofs.Told.{Told, answered, refusing, told-one, answers_one}
 use Rattle.problem.specs.File.{layout_in, words_of, file_of}
 use Rattle.problem.specs.Callers.{said_of}
@@ -13,26 +12,25 @@ use Rattle.problem.specs.Wrong.{file_fault}
 use Rattle.problem.proofs.Wrong.{formed-held}
 use Rattle.problem.proofs.RoundTrip.{write_read}
 use Rattle.problem.proofs.Callers.{told as told-by, formed-given}
-use Rattle.writer.specs.declared.Written.{Written}
-use Rattle.writer.specs.declared.Written.TheVariants.{File, Refused}
-use Rattle.writer.specs.Answer.{paper, count_of}
 use Rattle.writer.specs.Promise.{file_for, write_fault, Writing}
+use Rattle.std.specs.Prelude.{Err, Ok}
+use Rattle.rules.specs.Paper.{Answer, count_of, paper}
 
-told : (r : Written) → Told File Refused r (paper r) (count_of r)
-told (File n) = answered n
-told (Refused q) = refusing q 0
+told : (r : Answer) → Told Ok Err r (paper r) (count_of r)
+told (Ok n) = answered n
+told (Err q) = refusing q 0
 
 -- Two results that the promise allows are equal
-pub write-one : (p d e e' : List ℕ) (r r' : Written) → Writing p d e r → Writing p d e' r' → (r ≡ r') × (e ≡ e')
+pub write-one : (p d e e' : List ℕ) (r r' : Answer) → Writing p d e r → Writing p d e' r' → (r ≡ r') × (e ≡ e')
 write-one p d e e' r r' h k = answers_one told h k
 
 -- What a file is read as is written as that file, wherever there is room for it
-pub writes-read : (f d e : List ℕ) (r : Written) → Small 256 f → file_fault f ≡ Clear → length f ≤ length d
-    → Writing (said_of f) d e r → (r ≡ File (length f)) × (e ≡ f ++ drop (length f) d)
+pub writes-read : (f d e : List ℕ) (r : Answer) → Small 256 f → file_fault f ≡ Ok tt → length f ≤ length d
+    → Writing (said_of f) d e r → (r ≡ Ok (length f)) × (e ≡ f ++ drop (length f) d)
 writes-read f d e r small c l h =
     let b = write_read f small c in
     let p : List ℕ = words_of f in
     let g = formed-given (layout_in f) p b.0 (formed-held (layout_in f) p b.0) in
     let is : file_for (said_of f) ≡ f = ap₂ file_of (told-by (layout_in f) p b.0) g.1 ∙ b.1 in
-    let x : write_fault (said_of f) (length d) ≡ Clear = rw (g.0, is, le-ltb (length d) (length f) l) in
+    let x : write_fault (said_of f) (length d) ≡ Ok tt = rw (g.0, is, le-ltb (length d) (length f) l) in
     (told-one (told r) (answered (length f)) (h.paper-is ∙ rw x) (h.count-is ∙ rw (x, is)), h.buffer-is ∙ rw (x, is))

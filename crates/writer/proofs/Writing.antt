@@ -7,8 +7,6 @@ use borrow.Author.Tests.{lt-ltb, le-ltb}
 use lib.ListN.{length, take, drop, length-append}
 use lib.Seq.{sets, take_at}
 use Rattle.basics.proofs.Runs.{sets-next, filled}
-use Rattle.rules.specs.declared.Fault.{Fault}
-use Rattle.rules.specs.declared.Fault.TheVariants.{Clear, Bad}
 use Rattle.rules.specs.declared.Refusal.{Refusal}
 use Rattle.rules.specs.declared.Refusal.TheVariants.{Room}
 use Rattle.rules.specs.Problem.{words_for, most_words, columns, messages, WellFormed}
@@ -20,14 +18,12 @@ use Rattle.problem.specs.Callers.{column_words, said_for, recast, layout_by, pro
 use Rattle.problem.specs.Wrong.{count_fault, problem_fault}
 use Rattle.problem.proofs.File.{length-file}
 use Rattle.problem.proofs.Callers.{recast-columns, recast-messages, given-right, given-count, given-formed, problem-count, problem-rest}
-use Rattle.reader.specs.declared.answer.Read.{Read}
-use Rattle.reader.specs.declared.answer.Read.TheVariants.{Refused as Unread}
-use Rattle.reader.specs.Answer.{refusal}
 use Rattle.reader.proofs.Decoding.{refused-is}
-use Rattle.writer.specs.declared.Written.{Written}
-use Rattle.writer.specs.declared.Written.TheVariants.{File, Refused}
 use Rattle.rules.proofs.Told.{answers-refused, answers-done}
 use Rattle.writer.specs.Promise.{Given, Taken, Laying, Writing}
+use Rattle.std.specs.Prelude.{Err, Ok}
+use Rattle.rules.specs.Refusal.{Fault}
+use Rattle.rules.specs.Paper.{Answer}
 
 -- a number as one byte, as two and as four
 abbrev pub one : ℕ → List ℕ
@@ -59,15 +55,15 @@ module _ (L : Layout) (p d : List ℕ) {n : ℕ} (n-is : n ≡ byte_count L p) w
   bytes-are : length (file_of L p) ≡ n
   bytes-are = length-file L p ∙ sym n-is
 
-  pub laying-short : length d < n → Laying L p d d (Refused Room)
+  pub laying-short : length d < n → Laying L p d d (Err Room)
   laying-short l = answers-refused Room refl refl (rw (bytes-are, lt-ltb (length d) n l))
 
-  pub laying-done : {e : List ℕ} → n ≤ length d → e ≡ file_of L p ++ drop n d → Laying L p d e (File n)
+  pub laying-done : {e : List ℕ} → n ≤ length d → e ≡ file_of L p ++ drop n d → Laying L p d e (Ok n)
   laying-done l w = answers-done refl refl (rw (bytes-are, le-ltb (length d) n l)) bytes-are w
 
 -- ---- a caller's words are given, and their problem stands in front of the buffer
 module _ {w b : List ℕ} (d : List ℕ) {n k m : ℕ} where
-  pub given : {t : ℕ} → count_fault w ≡ Clear → k ≡ columns w → m ≡ messages w → t ≡ column_words (layout_by w) → n ≡ words_for k m → most_words ≤ length b
+  pub given : {t : ℕ} → count_fault w ≡ Ok tt → k ≡ columns w → m ≡ messages w → t ≡ column_words (layout_by w) → n ≡ words_for k m → most_words ≤ length b
       → b ≡ recast t 3 w ++ drop (said_for 3 k m) d → Given w b n
   given {t} clear ek em et en room put =
       let g = given-right w clear in
@@ -91,15 +87,15 @@ module _ {w b : List ℕ} {n : ℕ} (g : Given w b n) {x : Fault} (tested : x �
   fault-is : problem_fault w ≡ x
   fault-is = problem-rest w _ x g.clear g.front tested
 
-  pub writing-bad : (d : List ℕ) {q : Refusal} → x ≡ Bad q → Writing w d d (Refused q)
+  pub writing-bad : (d : List ℕ) {q : Refusal} → x ≡ Err q → Writing w d d (Err q)
   writing-bad d {q} h = answers-refused q refl refl (rw (fault-is ∙ h))
 
-  module _ (clear : x ≡ Clear) where
+  module _ (clear : x ≡ Ok tt) where
     pub given-is-formed : WellFormed (take n b)
     given-is-formed = rw g.front (given-formed w (fault-is ∙ clear)).0
 
-    pub writing-laid : {L : Layout} {d e : List ℕ} {r : Written} → L ≡ layout_by w → Laying L (take n b) d e r → Writing w d e r
+    pub writing-laid : {L : Layout} {d e : List ℕ} {r : Answer} → L ≡ layout_by w → Laying L (take n b) d e r → Writing w d e r
     writing-laid is h = rw (fault-is ∙ clear) (rw (is, g.front) at h)
 
-pub writing-refused : (w d : List ℕ) {b : List ℕ} {r : Read} {q t : Refusal} → Taken w b r → r ≡ Unread q → t ≡ refusal r → Writing w d d (Refused t)
+pub writing-refused : (w d : List ℕ) {b : List ℕ} {r : Answer} {q t : Refusal} → Taken w b r → r ≡ Err q → t ≡ refusal r → Writing w d d (Err t)
 writing-refused w d {t = t} h is t-is = answers-refused t refl refl (rw (problem-count w (refused-is h is t-is)))

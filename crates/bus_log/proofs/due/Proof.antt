@@ -18,25 +18,25 @@ returns c =
 
 returns-2 : tie.Need-returns-then-is_outside
 returns-2 c =
-    due-span-refused _ _ _ c.args.list.now (c.accept-got.ensures.opens _ c.in-Problem.is) (sym c.is_outside.ensures ∙ c.if-is_outside.true)
+    due-span-refused _ _ _ c.args.list.now (c.accept-got.ensures.opens _ c.in-Ok.is) (sym c.is_outside.ensures ∙ c.if-is_outside.true)
 
 -- behind the test the span is a right one
 span_right : (c : tie.Else-is_outside) → wrong_span c.args.span ≡ false
 span_right c = sym c.is_outside.ensures ∙ c.if-is_outside.false
 
 array-share-prefix-buffer : tie.Need-slice_bounds-buffer-end
-array-share-prefix-buffer c = (c.accept-got.ensures.opens _ c.in-Problem.is).within
+array-share-prefix-buffer c = (c.accept-got.ensures.opens _ c.in-Ok.is).within
 
 slice-aggregate-due-accepted : tie.Need-slice_bounds-due_accepted-end
-slice-aggregate-due-accepted c = sym (admitted-length (c.accept-got.ensures.opens _ c.in-Problem.is))
+slice-aggregate-due-accepted c = sym (admitted-length (c.accept-got.ensures.opens _ c.in-Ok.is))
 
 due-accepted-requires : tie.Need-due_accepted-requires
 due-accepted-requires c κs =
-    ((c.accept-got.ensures.opens _ c.in-Problem.is).accepted, omega (arith, within c.args.span 1 most_span (span_right c.before.before.before)))
+    ((c.accept-got.ensures.opens _ c.in-Ok.is).accepted, omega (arith, within c.args.span 1 most_span (span_right c.before.before.before)))
 
 returns-3 : tie.Need-returns
 returns-3 c =
-    due-span-accepted _ _ _ _ (c.accept-got.ensures.opens _ c.in-Problem.is) (span_right c.before.before.before.before.before.before) c.wide.ensures.0 c.due_accepted.ensures
+    due-span-accepted _ _ _ _ (c.accept-got.ensures.opens _ c.in-Ok.is) (span_right c.before.before.before.before.before.before) c.wide.ensures.0 c.due_accepted.ensures
 
 pub due_spec : {M : Type 1} → statement M
 due_spec =

@@ -19,7 +19,7 @@ returns c =
 
 returns-2 : tie.Need-returns-then-log-is_outside
 returns-2 c =
-    log-refused _ _ _ _ (c.accept-got.ensures.opens _ c.in-Problem.is) (rw (← c.is_outside.ensures) c.if-log-is_outside.true)
+    log-refused _ _ _ _ (c.accept-got.ensures.opens _ c.in-Ok.is) (rw (← c.is_outside.ensures) c.if-log-is_outside.true)
 
 -- behind the test log and span are right ones
 right : (c : tie.Else-log-is_outside)
@@ -28,19 +28,19 @@ right : (c : tie.Else-log-is_outside)
 right c = rw (← c.is_outside.ensures) c.if-log-is_outside.false
 
 array-share-prefix-buffer : tie.Need-slice_bounds-buffer-end
-array-share-prefix-buffer c = (c.accept-got.ensures.opens _ c.in-Problem.is).within
+array-share-prefix-buffer c = (c.accept-got.ensures.opens _ c.in-Ok.is).within
 
 slice-aggregate-hold-accepted : tie.Need-slice_bounds-hold_accepted-end
-slice-aggregate-hold-accepted c = sym (admitted-length (c.accept-got.ensures.opens _ c.in-Problem.is))
+slice-aggregate-hold-accepted c = sym (admitted-length (c.accept-got.ensures.opens _ c.in-Ok.is))
 
 hold-accepted-requires : tie.Need-hold_accepted-requires
 hold-accepted-requires c κs =
     let fits = log-right (length c.args.log.now) c.args.span (right c.before.before) in
-    ((c.accept-got.ensures.opens _ c.in-Problem.is).accepted, fits.0, omega (arith, fits.1), omega (arith, fits.1))
+    ((c.accept-got.ensures.opens _ c.in-Ok.is).accepted, fits.0, omega (arith, fits.1), omega (arith, fits.1))
 
 returns-3 : tie.Need-returns
 returns-3 c =
-    log-accepted _ _ _ _ (c.accept-got.ensures.opens _ c.in-Problem.is) (right c.before.before.before) c.wide.ensures.0 c.hold_accepted.ensures
+    log-accepted _ _ _ _ (c.accept-got.ensures.opens _ c.in-Ok.is) (right c.before.before.before) c.wide.ensures.0 c.hold_accepted.ensures
 
 pub hold_spec : {M : Type 1} → statement M
 hold_spec =

@@ -7,11 +7,9 @@ use native.Mathlib.Nat.{mul-le-mul}
 use native.Mathlib.Omega.{arith}
 use Rattle.rules.specs.Problem.{most_rows}
 use Rattle.cells.proofs.Marks.{table_none}
-use Rattle.bus_log.specs.declared.Opening.TheVariants.{Whole}
-use Rattle.rules.specs.Paper.{done}
+use Rattle.rules.specs.Paper.{done, paper}
 use Rattle.bus_log.specs.declared.answer.Held.{Held}
 use Rattle.bus_log.specs.Against.{Against, clean, differs}
-use Rattle.bus_log.specs.Answer.{paper_held}
 use Rattle.bus_log.specs.Promise.{HoldingAccepted}
 use Rattle.bus_log.specs.Span.{IsDue, most_span}
 use Rattle.bus_log.specs.Rows.{matrix_most, row_most}
@@ -22,6 +20,7 @@ use Rattle.bus_log.proofs.Walk.{rows-due}
 use borrow.Author.Rules.{rules}
 use Rattle.bus_log.proofs.hold_accepted.Statement.{statement}
 use Rattle.bus_log.proofs.hold_accepted.Tie as tie
+use Rattle.std.specs.Prelude.{Ok}
 
 -- the words that are due
 abbrev due : tie.After-fill → List ℕ
@@ -29,11 +28,11 @@ due c = all c.requires.0 c.fill.ensures c.args.span c.requires.2 c.requires.3
 
 -- how many words the first matrix cycle has, and that it is right
 abbrev first : tie.In-Whole → ℕ
-first c = c.in-Whole.n
+first c = c.in-Ok.n
 
 whole : (c : tie.In-Whole) →
-    Begins (one c.requires.0 c.fill.ensures c.args.span c.requires.2 c.requires.3) c.args.log.now (Whole (first c))
-whole c = subst (Begins _ _) c.in-Whole.is c.hold_rows-first.ensures
+    Begins (one c.requires.0 c.fill.ensures c.args.span c.requires.2 c.requires.3) c.args.log.now (Ok (first c))
+whole c = subst (Begins _ _) c.in-Ok.is c.hold_rows-first.ensures
 
 -- how far the log can be compared, and what the comparing says
 abbrev full : tie.After-smaller-reach → ℕ
@@ -65,7 +64,7 @@ later-small : (c : tie.After-cycle_of) → c.rows_of.result * c.cycle_of.result 
 later-small c = mul-le-mul {n₂ = most_rows} {m₂ = 65535} c.rows_of.ensures.2 c.cycle_of.ensures.2
 
 -- the answer where the log and what is due are told
-answered : {p w x log : List ℕ} {span : ℕ} {r : Held} → paper_held r ≡ done → IsDue p w span x → Against x log r → HoldingAccepted p w span log r
+answered : {p w x log : List ℕ} {span : ℕ} {r : Held} → paper r ≡ done → IsDue p w span x → Against x log r → HoldingAccepted p w span log r
 answered e d h = record { paper-is = e; due = _; due-is = λ _. d; held = λ _. h }
 
 fill-requires : tie.Need-fill-requires

@@ -11,10 +11,10 @@ ffy_due_spec =
     (tie.spec
     (λ c κs. search rules)
     (λ c. search rules)
-    (λ c κs. due-fits _ c.due-got.ensures c.in-Words.is)
+    (λ c κs. due-fits _ c.due-got.ensures c.in-Ok.is)
     (λ c. search rules)
     (λ c κs. search rules)
     (λ c. search rules)
-    (λ c. handed c.due-got.ensures c.in-Words.is c.wrote.ensures)
+    (λ c. handed c.due-got.ensures c.in-Ok.is c.wrote.ensures)
     (λ c. search rules)
-    (λ c. handed c.due-got.ensures c.in-Refused.is c.refuse.ensures))
+    (λ c. handed c.due-got.ensures c.in-Err.is c.refuse.ensures))

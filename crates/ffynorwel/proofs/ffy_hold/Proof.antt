@@ -17,4 +17,4 @@ ffy_hold_spec =
     (λ c κs. search rules)
     (λ c. handed c.hold-got.ensures c.in-Clean.is c.finish.ensures)
     (λ c. handed c.hold-got.ensures c.in-Differs.is c.finish-in-Differs.ensures)
-    (λ c. handed c.hold-got.ensures c.in-Refused.is c.refuse.ensures))
+    (λ c. handed c.hold-got.ensures c.in-Err.is c.refuse.ensures))

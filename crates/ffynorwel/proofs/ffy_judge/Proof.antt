@@ -13,5 +13,5 @@ ffy_judge_spec =
     (λ c κs. search rules)
     (λ c. search rules)
     (λ c κs. search rules)
-    (λ c. handed c.judge-got.ensures c.in-Accepted.is c.finish.ensures)
-    (λ c. handed c.judge-got.ensures c.in-Refused.is c.refuse.ensures))
+    (λ c. handed c.judge-got.ensures c.in-Ok.is c.finish.ensures)
+    (λ c. handed c.judge-got.ensures c.in-Err.is c.refuse.ensures))

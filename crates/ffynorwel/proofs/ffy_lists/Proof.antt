@@ -11,10 +11,10 @@ ffy_lists_spec =
     (tie.spec
     (λ c κs. search rules)
     (λ c. search rules)
-    (λ c κs. lists-fits _ c.lists-got.ensures c.in-Lists.is)
+    (λ c κs. lists-fits _ c.lists-got.ensures c.in-Ok.is)
     (λ c. search rules)
     (λ c κs. search rules)
     (λ c. search rules)
-    (λ c. handed c.lists-got.ensures c.in-Lists.is c.wrote.ensures)
+    (λ c. handed c.lists-got.ensures c.in-Ok.is c.wrote.ensures)
     (λ c. search rules)
-    (λ c. handed c.lists-got.ensures c.in-Refused.is c.refuse.ensures))
+    (λ c. handed c.lists-got.ensures c.in-Err.is c.refuse.ensures))

@@ -11,10 +11,10 @@ ffy_read_spec =
     (tie.spec
     (λ c κs. search rules)
     (λ c. search rules)
-    (λ c κs. read_fits _ c.read-got.ensures c.in-Problem.is)
+    (λ c κs. read_fits _ c.read-got.ensures c.in-Ok.is)
     (λ c. search rules)
     (λ c κs. search rules)
     (λ c. search rules)
-    (λ c. handed c.read-got.ensures c.in-Problem.is c.wrote.ensures)
+    (λ c. handed c.read-got.ensures c.in-Ok.is c.wrote.ensures)
     (λ c. search rules)
-    (λ c. handed c.read-got.ensures c.in-Refused.is c.refuse.ensures))
+    (λ c. handed c.read-got.ensures c.in-Err.is c.refuse.ensures))

@@ -14,6 +14,6 @@ ffy_responses_spec =
     (λ c. search rules)
     (λ c κs. search rules)
     (λ c. search rules)
-    (λ c. handed c.responses-got.ensures c.in-Done.is c.finish.ensures)
+    (λ c. handed c.responses-got.ensures c.in-Ok.is c.finish.ensures)
     (λ c. search rules)
-    (λ c. handed c.responses-got.ensures c.in-Refused.is c.refuse.ensures))
+    (λ c. handed c.responses-got.ensures c.in-Err.is c.refuse.ensures))

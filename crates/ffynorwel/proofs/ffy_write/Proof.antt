@@ -11,10 +11,10 @@ ffy_write_spec =
     (tie.spec
     (λ c κs. search rules)
     (λ c. search rules)
-    (λ c κs. write-fits _ c.write-got.ensures c.in-File.is)
+    (λ c κs. write-fits _ c.write-got.ensures c.in-Ok.is)
     (λ c. search rules)
     (λ c κs. search rules)
     (λ c. search rules)
-    (λ c. handed c.write-got.ensures c.in-File.is c.wrote.ensures)
+    (λ c. handed c.write-got.ensures c.in-Ok.is c.wrote.ensures)
     (λ c. search rules)
-    (λ c. handed c.write-got.ensures c.in-Refused.is c.refuse.ensures))
+    (λ c. handed c.write-got.ensures c.in-Err.is c.refuse.ensures))

@@ -1,20 +1,20 @@
 -- Answer by answer.
 use mathlib.Core.Path.{sym, ap, ◌∙◌}
 use native.Mathlib.Omega.{arith}
-use Rattle.versions.specs.Answer.{count_of}
 use Rattle.ffynorwel.specs.Eight.{moved_words}
 use borrow.Author.Rules.{rules}
 use Rattle.ffynorwel.proofs.store_moved.Statement.{statement}
 use Rattle.ffynorwel.proofs.store_moved.Tie as tie
+use Rattle.rules.specs.Paper.{count_of}
 
 wrote-requires : tie.Need-wrote-requires
-wrote-requires c κs = omega (arith, c.requires, ap count_of c.in-File.is)
+wrote-requires c κs = omega (arith, c.requires, ap count_of c.in-Ok.is)
 
-returns : tie.Need-returns-in-File
-returns c = c.wrote.ensures ∙ sym (ap moved_words c.in-File.is)
+returns : tie.Need-returns-in-Ok
+returns c = c.wrote.ensures ∙ sym (ap moved_words c.in-Ok.is)
 
-returns-2 : tie.Need-returns-in-Refused
-returns-2 c = c.refuse.ensures ∙ sym (ap moved_words c.in-Refused.is)
+returns-2 : tie.Need-returns-in-Err
+returns-2 c = c.refuse.ensures ∙ sym (ap moved_words c.in-Err.is)
 
 pub store_moved_spec : {M : Type 1} → statement M
 store_moved_spec =

@@ -13,17 +13,17 @@ returns c =
 
 -- where the answer is a problem, the buffer begins with its words
 array-share-prefix-words : tie.Need-slice_bounds-words-end
-array-share-prefix-words c = (c.accept-got.ensures.opens _ c.in-Problem.is).within
+array-share-prefix-words c = (c.accept-got.ensures.opens _ c.in-Ok.is).within
 
 slice-aggregate-problem : tie.Need-slice_bounds-problem-end
-slice-aggregate-problem c = sym (admitted-length (c.accept-got.ensures.opens _ c.in-Problem.is))
+slice-aggregate-problem c = sym (admitted-length (c.accept-got.ensures.opens _ c.in-Ok.is))
 
 figures-requires : tie.Need-figures-lost-requires
-figures-requires c κs = (c.accept-got.ensures.opens _ c.in-Problem.is).accepted
+figures-requires c κs = (c.accept-got.ensures.opens _ c.in-Ok.is).accepted
 
 returns-2 : tie.Need-returns
 returns-2 c =
-    judging-accepted (c.accept-got.ensures.opens _ c.in-Problem.is) c.figures-lost.ensures
+    judging-accepted (c.accept-got.ensures.opens _ c.in-Ok.is) c.figures-lost.ensures
 
 pub judge_spec : {M : Type 1} → statement M
 judge_spec =

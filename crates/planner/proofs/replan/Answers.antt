@@ -6,7 +6,7 @@ pub returns-in_default : goal.returns-in_default
 returns-in_default c = not-read-again _ _ c.decode-got.ensures c.in_default.is c.refusal_of.ensures
 
 pub slice_bounds-words-end : goal.slice_bounds-words-end
-slice_bounds-words-end c = (c.decode-got.ensures.opens _ c.in-Problem.is).within
+slice_bounds-words-end c = (c.decode-got.ensures.opens _ c.in-Ok.is).within
 
 pub returns : goal.returns
-returns c = is-read-again _ _ (c.decode-got.ensures.opens _ c.in-Problem.is) c.replan_words.ensures
+returns c = is-read-again _ _ (c.decode-got.ensures.opens _ c.in-Ok.is) c.replan_words.ensures

@@ -3,7 +3,6 @@ use Rattle.std.proofs.Common.{ℕ, ◌≡◌, ◌≤◌, ◌∙◌, sym, List, l
 use native.Mathlib.Omega.{arith}
 use borrow.Author.Tests.{not-true, not-false}
 use lib.Seq.{length-take-le}
-use Rattle.rules.specs.declared.Fault.TheVariants.{Clear}
 use Rattle.rules.specs.Problem.{messages, proposal_words}
 use Rattle.row_words.proofs.Taking.{words-none}
 use Rattle.proposal.specs.Partial.{kept_fault}
@@ -12,20 +11,21 @@ use Rattle.rest.specs.Free.{free_of}
 use Rattle.planner.specs.Complete.{Completed}
 use Rattle.planner.proofs.Promise.{too_many, too_short, not_found, is_found, first-refused, first-clear}
 use Rattle.planner.proofs.replan_words.Goals as goal
+use Rattle.std.specs.Prelude.{Ok}
 
 -- placements without a fault are as many words as a proposal has
-words : (p k : List ℕ) → kept_fault p k ≡ Clear → length k ≡ proposal_words p
+words : (p k : List ℕ) → kept_fault p k ≡ Ok tt → length k ≡ proposal_words p
 words p k clear = ((kept-faultless p k).0 clear).words
 
 -- and what completes them has as many
-long : (p k : List ℕ) {w : List ℕ} → kept_fault p k ≡ Clear → Completed p k w → length k ≤ length w
+long : (p k : List ℕ) {w : List ℕ} → kept_fault p k ≡ Ok tt → Completed p k w → length k ≤ length w
 long p k clear done = omega (arith, words p k clear, done.long)
 
 pub kept_fault-fault-requires : goal.kept_fault-fault-requires
 kept_fault-fault-requires c = (c.requires, words-none _ _ c.requires)
 
-pub returns-in-Bad : goal.returns-in-Bad
-returns-in-Bad c = first-refused _ (sym c.kept_fault-fault.ensures.is ∙ c.in-Bad.is)
+pub returns-in-Err : goal.returns-in-Err
+returns-in-Err c = first-refused _ (sym c.kept_fault-fault.ensures.is ∙ c.in-Err.is)
 
 pub free_of-left-requires : goal.free_of-left-requires
 free_of-left-requires c = (omega arith, omega (arith, c.messages_of.ensures, words _ _ (sym c.kept_fault-fault.ensures.is ∙ c.in_default.is)))

@@ -13,23 +13,23 @@ returns c =
 -- where the answer is a problem, the buffer begins with its words
 slice-reshare-prefix-proposal-fault : tie.Need-slice_bounds-proposal_fault-end
 slice-reshare-prefix-proposal-fault c =
-    (c.decode-got.ensures.opens _ c.in-Problem.is).within
+    (c.decode-got.ensures.opens _ c.in-Ok.is).within
 
 slice-aggregate-proposal-fault : tie.Need-slice_bounds-proposal_fault-end-2
 slice-aggregate-proposal-fault c =
-    sym (opened-length (c.decode-got.ensures.opens _ c.in-Problem.is))
+    sym (opened-length (c.decode-got.ensures.opens _ c.in-Ok.is))
 
 proposal-fault-requires : tie.Need-proposal_fault-fault-requires
 proposal-fault-requires c κs =
-    (c.decode-got.ensures.opens _ c.in-Problem.is).formed
+    (c.decode-got.ensures.opens _ c.in-Ok.is).formed
 
-returns-2 : tie.Need-returns-in-Bad
+returns-2 : tie.Need-returns-in-Err
 returns-2 c =
-    tested-proposal _ c.decode-got.ensures c.in-Problem.is c.proposal_fault-fault.ensures refl c.in-Bad.is
+    tested-proposal _ c.decode-got.ensures c.in-Ok.is c.proposal_fault-fault.ensures refl c.in-Err.is
 
 returns-3 : tie.Need-returns
 returns-3 c =
-    tested-clear _ c.decode-got.ensures c.in-Problem.is c.proposal_fault-fault.ensures refl c.in_default-fault.is
+    tested-clear _ c.decode-got.ensures c.in-Ok.is c.proposal_fault-fault.ensures refl c.in_default-fault.is
 
 pub accept_spec : {M : Type 1} → statement M
 accept_spec =

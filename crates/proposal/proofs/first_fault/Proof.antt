@@ -8,7 +8,6 @@ use native.Mathlib.Omega.{arith}
 use borrow.Author.Rules.{rules}
 use borrow.Author.Tests.{not-true, not-false}
 use Rattle.basics.specs.Tests.{some}
-use Rattle.rules.specs.declared.Fault.TheVariants.{Clear}
 use Rattle.rules.specs.Parts.{Member}
 use Rattle.rules.specs.Problem.{column, row, most_messages}
 use Rattle.rules.specs.Tests.{meets, own_fault}
@@ -16,10 +15,10 @@ use Rattle.rules.proofs.Bounds.{member}
 use Rattle.rules.proofs.Meaning.{own_alone}
 use Rattle.row_words.specs.RowWords.{RowWords}
 use Rattle.proposal.specs.Partial.{looked}
-use Rattle.proposal.proofs.Walk.{Unmet, unmet-none, unmet-more, sought, unlooked-kept, words-skip, Passed, passed_none, passed-skip, Own, own_read, own_first, all-clear}
-use Rattle.proposal.proofs.Walk.{Turn, turn-read, tells, met-first, passed-more, words-passed}
+use Rattle.proposal.proofs.Walk.{Unmet, unmet-none, unmet-more, sought, unlooked-kept, words-skip, Passed, passed_none, passed-skip, Own, own_read, own_first, all-clear, Turn, turn-read, tells, met-first, passed-more, words-passed}
 use Rattle.proposal.proofs.first_fault.Statement.{statement}
 use Rattle.proposal.proofs.first_fault.Tie as tie
+use Rattle.std.specs.Prelude.{Ok}
 
 abbrev invariant-loop : tie.invariant-loop-c
 invariant-loop p w messages partial taken rows j c r step i₀ i = (i < j) × Unmet p w i j
@@ -64,7 +63,7 @@ own c = own_read c.column_of-c.ensures.0 c.row_of-r.ensures.0 c.own_fault-own.en
 -- it has none: then it can have its column and base row
 clear : (c : tie.In_default invariant-loop decreases-loop invariant-faults decreases-faults)
     →
-    own_fault c.args.p.now c.faults.j (column c.args.w.now c.faults.j) (row c.args.w.now c.faults.j) ≡ Clear
+    own_fault c.args.p.now c.faults.j (column c.args.w.now c.faults.j) (row c.args.w.now c.faults.j) ≡ Ok tt
 clear c = sym (own c.before).is ∙ c.in_default.is
 
 occupy-requires : tie.Need-occupy-requires invariant-loop decreases-loop invariant-faults decreases-faults
@@ -120,9 +119,9 @@ faults-again-2 c = let done = turn c.before in (omega arith, passed-more done c.
 returns : tie.Need-returns-then-messages-j invariant-loop decreases-loop invariant-faults decreases-faults
 returns c = all-clear c.faults.invariant.1 c.faults.invariant.2 c.requires.1 (omega arith)
 
-returns-2 : tie.Need-returns-in-Bad invariant-loop decreases-loop invariant-faults decreases-faults
+returns-2 : tie.Need-returns-in-Err invariant-loop decreases-loop invariant-faults decreases-faults
 returns-2 c =
-    own_first c.faults.invariant.1 (omega arith) (looked-at c.before) (own c.before) c.in-Bad.is
+    own_first c.faults.invariant.1 (omega arith) (looked-at c.before) (own c.before) c.in-Err.is
 
 returns-3 : tie.Need-returns-then-do_meet invariant-loop decreases-loop invariant-faults decreases-faults
 returns-3 c =

@@ -13,31 +13,31 @@ returns c =
 
 slice-reshare-prefix-words-fault : tie.Need-slice_bounds-words_fault-end
 slice-reshare-prefix-words-fault c =
-    (c.words_in-got.ensures.opens _ c.in-Problem.is).within
+    (c.words_in-got.ensures.opens _ c.in-Ok.is).within
 
 slice-aggregate-words-fault : tie.Need-slice_bounds-words_fault-end-2
 slice-aggregate-words-fault c =
-    sym (length-take-le _ _ (c.words_in-got.ensures.opens _ c.in-Problem.is).within)
+    sym (length-take-le _ _ (c.words_in-got.ensures.opens _ c.in-Ok.is).within)
 
 columns-in-requires : tie.Need-columns_in-requires
 columns-in-requires c κs =
-    (head-right _ (c.words_in-got.ensures.opens _ c.in-Problem.is).clear).long
+    (head-right _ (c.words_in-got.ensures.opens _ c.in-Ok.is).clear).long
 
 messages-in-requires : tie.Need-messages_in-requires
 messages-in-requires c κs =
-    (head-right _ (c.words_in-got.ensures.opens _ c.in-Problem.is).clear).long
+    (head-right _ (c.words_in-got.ensures.opens _ c.in-Ok.is).clear).long
 
 words-fault-requires : tie.Need-words_fault-fault-requires
 words-fault-requires c κs =
-    rw (c.columns_in.ensures.0, c.messages_in.ensures.0) (c.words_in-got.ensures.opens _ c.in-Problem.is).counted
+    rw (c.columns_in.ensures.0, c.messages_in.ensures.0) (c.words_in-got.ensures.opens _ c.in-Ok.is).counted
 
-returns-2 : tie.Need-returns-in-Bad
+returns-2 : tie.Need-returns-in-Err
 returns-2 c =
-    decoded-bad (c.words_in-got.ensures.opens _ c.in-Problem.is) c.words_fault-fault.ensures refl c.in-Bad.is
+    decoded-bad (c.words_in-got.ensures.opens _ c.in-Ok.is) c.words_fault-fault.ensures refl c.in-Err.is
 
 returns-3 : tie.Need-returns
 returns-3 c =
-    decoded-clear (c.words_in-got.ensures.opens _ c.in-Problem.is) c.words_fault-fault.ensures refl c.in_default-fault.is
+    decoded-clear (c.words_in-got.ensures.opens _ c.in-Ok.is) c.words_fault-fault.ensures refl c.in_default-fault.is
 
 pub decode_spec : {M : Type 1} → statement M
 decode_spec =

@@ -52,17 +52,17 @@ returns-4 c =
 returns-5 : tie.Need-returns-then-file-ne0
 returns-5 c =
     let k = found c.before.before.before.before.before.before.before.before in
-    head-last _ k.0 k.1 k.2 (tested c.before.before.before) c.in-Clear.is (λ e. c.if-file-ne0.true e)
+    head-last _ k.0 k.1 k.2 (tested c.before.before.before) c.in-Ok.is (λ e. c.if-file-ne0.true e)
 
 returns-6 : tie.Need-returns-then-file-bytes_for
 returns-6 c =
     let k = found c.before.before.before.before.before.before.before.before.before.before.before.before.before in
-    head-unlike _ k.0 k.1 k.2 (tested c.before.before.before.before.before.before.before.before) c.in-Clear.is c.if-file-ne0.false (λ e. c.if-file-bytes_for.true (e ∙ sym (counted c.before)))
+    head-unlike _ k.0 k.1 k.2 (tested c.before.before.before.before.before.before.before.before) c.in-Ok.is c.if-file-ne0.false (λ e. c.if-file-bytes_for.true (e ∙ sym (counted c.before)))
 
 returns-7 : tie.Need-returns
 returns-7 c =
     let k = found c.before.before.before.before.before.before.before.before.before.before.before.before.before in
-    head_clear _ k.0 k.1 k.2 (tested c.before.before.before.before.before.before.before.before) c.in-Clear.is c.if-file-ne0.false (c.if-file-bytes_for.false ∙ counted c.before)
+    head_clear _ k.0 k.1 k.2 (tested c.before.before.before.before.before.before.before.before) c.in-Ok.is c.if-file-ne0.false (c.if-file-bytes_for.false ∙ counted c.before)
 
 pub head_fault_spec : {M : Type 1} → statement M
 head_fault_spec =

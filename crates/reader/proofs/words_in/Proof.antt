@@ -1,7 +1,6 @@
 -- The head is tested first; where it has no fault the words go to the buffer's front.
 use mathlib.Core.Path.{◌≡◌, refl, sym, ◌∙◌}
 use native.Mathlib.Omega.{arith}
-use Rattle.rules.specs.declared.Fault.TheVariants.{Clear}
 use Rattle.problem.specs.Wrong.{head_fault}
 use Rattle.problem.proofs.Wrong.{head-right}
 use Rattle.reader.specs.Parts.{Sized}
@@ -9,16 +8,17 @@ use Rattle.reader.proofs.Decoding.{head-sized, answered-bad, answered-words, lai
 use borrow.Author.Rules.{rules}
 use Rattle.reader.proofs.words_in.Statement.{statement}
 use Rattle.reader.proofs.words_in.Tie as tie
+use Rattle.std.specs.Prelude.{Ok}
 
 -- no fault was found in the head
-clear : (c : tie.In_default) → head_fault c.args.file.now ≡ Clear
+clear : (c : tie.In_default) → head_fault c.args.file.now ≡ Ok tt
 clear c = sym c.head_fault-of_head.ensures ∙ c.in_default.is
 
 sized : (c : tie.After-layout_in) → Sized c.layout_in.result c.args.file.now c.columns_in-k.result c.messages_in-m.result
 sized c = head-sized _ _ _ (head-right _ (clear c.before.before.before)) c.layout_in.ensures c.columns_in-k.ensures.0 c.messages_in-m.ensures.0
 
-returns : tie.Need-returns-in-Bad
-returns c = answered-bad _ refl (sym c.head_fault-of_head.ensures ∙ c.in-Bad.is)
+returns : tie.Need-returns-in-Err
+returns c = answered-bad _ refl (sym c.head_fault-of_head.ensures ∙ c.in-Err.is)
 
 columns-in-requires : tie.Need-columns_in-k-requires
 columns-in-requires c κs = (head-right _ (clear c)).long

@@ -7,8 +7,8 @@ use Rattle.response.proofs.Spans.{noted-bad, noted-rest}
 use Rattle.response.proofs.call_fault.Statement.{statement}
 use Rattle.response.proofs.call_fault.Tie as tie
 
-returns : tie.Need-returns-in-Bad
-returns c = noted-bad (call-events _ _ c.events_fault-fault.ensures c.in-Bad.is)
+returns : tie.Need-returns-in-Err
+returns c = noted-bad (call-events _ _ c.events_fault-fault.ensures c.in-Err.is)
 
 busy-fault-requires : tie.Need-busy_fault-busy-requires
 busy-fault-requires c κs =

@@ -7,8 +7,8 @@ use Rattle.response.proofs.Results.{responding-refused, responding-done}
 use Rattle.response.proofs.responses.Statement.{statement}
 use Rattle.response.proofs.responses.Tie as tie
 
-returns : tie.Need-returns-in-Bad
-returns c = responding-refused _ _ c.call_fault-fault.ensures.fault-is c.in-Bad.is
+returns : tie.Need-returns-in-Err
+returns c = responding-refused _ _ c.call_fault-fault.ensures.fault-is c.in-Err.is
 
 fill-requires : tie.Need-fill-requires
 fill-requires c κs =

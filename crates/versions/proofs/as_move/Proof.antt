@@ -1,12 +1,12 @@
 -- Answer by answer, the same in the paper's terms.
 use mathlib.Core.Path.{sym, ap}
-use Rattle.writer.specs.Answer.{paper, count_of}
 use borrow.Author.Rules.{rules}
 use Rattle.versions.proofs.as_move.Statement.{statement}
 use Rattle.versions.proofs.as_move.Tie as tie
+use Rattle.rules.specs.Paper.{count_of, paper}
 
-returns-2 : tie.Need-returns-in-Refused
-returns-2 c = let is = c.in-Refused.is in (sym (ap paper is), sym (ap count_of is))
+returns-2 : tie.Need-returns-in-Err
+returns-2 c = let is = c.in-Err.is in (sym (ap paper is), sym (ap count_of is))
 
 pub as_move_spec : {M : Type 1} → statement M
 as_move_spec =

@@ -15,34 +15,34 @@ returns c =
     answers-refused c.refusal_of.result refl refl (rw (refused-is c.open_in-got.ensures c.in_default.is c.refusal_of.ensures))
 
 array-share-prefix-words : tie.Need-slice_bounds-words-end
-array-share-prefix-words c = (c.open_in-got.ensures.opens _ c.in-Problem.is).opened.within
+array-share-prefix-words c = (c.open_in-got.ensures.opens _ c.in-Ok.is).opened.within
 
 slice-aggregate-problem : tie.Need-slice_bounds-problem-end
-slice-aggregate-problem c = sym (opened-length (c.open_in-got.ensures.opens _ c.in-Problem.is).opened)
+slice-aggregate-problem c = sym (opened-length (c.open_in-got.ensures.opens _ c.in-Ok.is).opened)
 
 columns-of-requires : tie.Need-columns_of-k-requires
-columns-of-requires c κs = (c.open_in-got.ensures.opens _ c.in-Problem.is).opened.formed
+columns-of-requires c κs = (c.open_in-got.ensures.opens _ c.in-Ok.is).opened.formed
 
 messages-of-requires : tie.Need-messages_of-m-requires
-messages-of-requires c κs = (c.open_in-got.ensures.opens _ c.in-Problem.is).opened.formed
+messages-of-requires c κs = (c.open_in-got.ensures.opens _ c.in-Ok.is).opened.formed
 
 held-fault-requires : tie.Need-held_fault-fault-requires
 held-fault-requires c κs =
-    let o = (c.open_in-got.ensures.opens _ c.in-Problem.is).opened in
+    let o = (c.open_in-got.ensures.opens _ c.in-Ok.is).opened in
     formed-counted _ _ _ o.formed c.columns_of-k.ensures.0 c.messages_of-m.ensures.0
 
-returns-2 : tie.Need-returns-in-Bad
+returns-2 : tie.Need-returns-in-Err
 returns-2 c =
-    let o = c.open_in-got.ensures.opens _ c.in-Problem.is in
-    lowering-unheld o c.held_fault-fault.ensures c.in-Bad.is
+    let o = c.open_in-got.ensures.opens _ c.in-Ok.is in
+    lowering-unheld o c.held_fault-fault.ensures c.in-Err.is
 
 lay-requires : tie.Need-lay-requires
 lay-requires c κs =
-    (c.open_in-got.ensures.opens _ c.in-Problem.is).opened.formed
+    (c.open_in-got.ensures.opens _ c.in-Ok.is).opened.formed
 
 returns-3 : tie.Need-returns
 returns-3 c =
-    let o = c.open_in-got.ensures.opens _ c.in-Problem.is in
+    let o = c.open_in-got.ensures.opens _ c.in-Ok.is in
     let held = ap (held_fault One) (sym o.opened.front) ∙ sym c.held_fault-fault.ensures ∙ c.in_default-fault.is in
     moved-laid One o.opened c.lay.ensures c.as_move.ensures (rw (o.clear, held))
 

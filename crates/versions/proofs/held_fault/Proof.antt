@@ -11,7 +11,7 @@ returns c =
 
 returns-2 : tie.Need-returns
 returns-2 c =
-    held-messages _ _ c.requires.columns-are c.requires.messages-are (sym c.columns_held-of_columns.ensures ∙ c.in-Clear.is) c.messages_held.ensures
+    held-messages _ _ c.requires.columns-are c.requires.messages-are (sym c.columns_held-of_columns.ensures ∙ c.in-Ok.is) c.messages_held.ensures
 
 pub held_fault_spec : {M : Type 1} → statement M
 held_fault_spec =

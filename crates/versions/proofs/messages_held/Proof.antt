@@ -3,7 +3,6 @@ use Prim.Native.Nat.{ℕ, ◌-◌, ◌<◌, ◌≤◌}
 use mathlib.Core.Path.{◌≡◌, sym}
 use borrow.Author.Count.{below_none, below_more}
 use native.Mathlib.Omega.{arith}
-use Rattle.rules.specs.declared.Fault.TheVariants.{Clear}
 use Rattle.rules.specs.declared.Refusal.TheVariants.{Unheld}
 use Rattle.rules.proofs.Faults.{first-clear, first-at}
 use Rattle.problem.specs.Wrong.{message_unheld}
@@ -12,9 +11,10 @@ use Rattle.versions.proofs.Holding.{unheld, is_held}
 use borrow.Author.Rules.{rules}
 use Rattle.versions.proofs.messages_held.Statement.{statement}
 use Rattle.versions.proofs.messages_held.Tie as tie
+use Rattle.std.specs.Prelude.{Ok}
 
 abbrev invariant-loop : tie.invariant-loop-j
-invariant-loop layout p k m j₀ j = (j ≤ m) × ((i : ℕ) → i < j → message_unheld layout p i ≡ Clear)
+invariant-loop layout p k m j₀ j = (j ≤ m) × ((i : ℕ) → i < j → message_unheld layout p i ≡ Ok tt)
 
 abbrev decreases-loop : tie.decreases-loop-j
 decreases-loop layout p k m j₀ j = m - j

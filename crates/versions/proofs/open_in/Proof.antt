@@ -12,16 +12,16 @@ returns c = open-refused _ c.decode-got.ensures c.in_default.is
 -- where the answer is a problem, the file has a header
 two-bytes-requires : tie.Need-two_bytes-requires
 two-bytes-requires c κs =
-    let o = c.decode-got.ensures.opens _ c.in-Problem.is in
+    let o = c.decode-got.ensures.opens _ c.in-Ok.is in
     omega (arith, (head-right _ (file-parts _ o.clear).0).long)
 
 returns-2 : tie.Need-returns-then-two_bytes-version_of
 returns-2 c =
-    open-other _ c.decode-got.ensures c.in-Problem.is c.two_bytes.ensures.0 c.version_of.ensures c.if-two_bytes-version_of.true
+    open-other _ c.decode-got.ensures c.in-Ok.is c.two_bytes.ensures.0 c.version_of.ensures c.if-two_bytes-version_of.true
 
 returns-3 : tie.Need-returns
 returns-3 c =
-    open-this _ c.decode-got.ensures c.in-Problem.is c.two_bytes.ensures.0 c.version_of.ensures c.if-two_bytes-version_of.false
+    open-this _ c.decode-got.ensures c.in-Ok.is c.two_bytes.ensures.0 c.version_of.ensures c.if-two_bytes-version_of.false
 
 pub open_in_spec : {M : Type 1} → statement M
 open_in_spec =

@@ -13,17 +13,17 @@ returns c =
     answers-refused c.refusal_of.result refl refl (rw (refused-is c.open_in-got.ensures c.in_default.is c.refusal_of.ensures))
 
 array-share-prefix-words : tie.Need-slice_bounds-words-end
-array-share-prefix-words c = (c.open_in-got.ensures.opens _ c.in-Problem.is).opened.within
+array-share-prefix-words c = (c.open_in-got.ensures.opens _ c.in-Ok.is).opened.within
 
 slice-aggregate-lay : tie.Need-slice_bounds-lay-end
-slice-aggregate-lay c = sym (opened-length (c.open_in-got.ensures.opens _ c.in-Problem.is).opened)
+slice-aggregate-lay c = sym (opened-length (c.open_in-got.ensures.opens _ c.in-Ok.is).opened)
 
 lay-requires : tie.Need-lay-requires
-lay-requires c κs = (c.open_in-got.ensures.opens _ c.in-Problem.is).opened.formed
+lay-requires c κs = (c.open_in-got.ensures.opens _ c.in-Ok.is).opened.formed
 
 returns-2 : tie.Need-returns
 returns-2 c =
-    let o = c.open_in-got.ensures.opens _ c.in-Problem.is in
+    let o = c.open_in-got.ensures.opens _ c.in-Ok.is in
     moved-laid Two o.opened c.lay.ensures c.as_move.ensures (rw o.clear)
 
 pub up_spec : {M : Type 1} → statement M

@@ -1,10 +1,8 @@
 -- Invariant: the columns before c have no fault, and `from` is where column c may start. A column without a fault ends where the next may start.
-use Prim.Native.Nat.{ℕ, ◌-◌, ◌<◌, ◌≤◌}
+use Prim.Native.Nat.{ℕ, ◌-◌, ◌<◌, ◌≤◌, ◌+◌}
 use mathlib.Core.Path.{◌≡◌, sym, ap₂, ◌∙◌}
-use Prim.Native.Nat.{◌+◌}
 use borrow.Author.Count.{below_none, below_more}
 use native.Mathlib.Omega.{arith}
-use Rattle.rules.specs.declared.Fault.TheVariants.{Clear}
 use Rattle.rules.specs.Problem.{earliest}
 use Rattle.rules.specs.Rules.{column_fault}
 use Rattle.rules.proofs.Faults.{first-clear, first-at}
@@ -12,9 +10,10 @@ use Rattle.wellformed.proofs.Words.{has-column, earliest-next, column-clear, col
 use borrow.Author.Rules.{rules}
 use Rattle.wellformed.proofs.columns_fault.Statement.{statement}
 use Rattle.wellformed.proofs.columns_fault.Tie as tie
+use Rattle.std.specs.Prelude.{Ok}
 
 abbrev invariant-columns : tie.invariant-columns
-invariant-columns words k m from₀ c₀ from c = (c ≤ k) × (from ≡ earliest words c) × ((i : ℕ) → i < c → column_fault words i ≡ Clear)
+invariant-columns words k m from₀ c₀ from c = (c ≤ k) × (from ≡ earliest words c) × ((i : ℕ) → i < c → column_fault words i ≡ Ok tt)
 
 abbrev decreases-columns : tie.decreases-columns
 decreases-columns words k m from₀ c₀ from c = k - c

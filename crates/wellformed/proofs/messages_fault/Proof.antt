@@ -3,16 +3,16 @@ use Prim.Native.Nat.{ℕ, ◌-◌, ◌<◌, ◌≤◌}
 use mathlib.Core.Path.{◌≡◌, sym, ◌∙◌}
 use borrow.Author.Count.{below_none, below_more}
 use native.Mathlib.Omega.{arith}
-use Rattle.rules.specs.declared.Fault.TheVariants.{Clear}
 use Rattle.rules.proofs.Faults.{first-clear, first-at}
 use Rattle.rules.specs.Rules.{message_fault}
 use Rattle.wellformed.proofs.Words.{has-message, message-identity, message-timing, message-clear}
 use borrow.Author.Rules.{rules}
 use Rattle.wellformed.proofs.messages_fault.Statement.{statement}
 use Rattle.wellformed.proofs.messages_fault.Tie as tie
+use Rattle.std.specs.Prelude.{Ok}
 
 abbrev invariant-messages : tie.invariant-messages
-invariant-messages words k m j₀ j = (j ≤ m) × ((i : ℕ) → i < j → message_fault words i ≡ Clear)
+invariant-messages words k m j₀ j = (j ≤ m) × ((i : ℕ) → i < j → message_fault words i ≡ Ok tt)
 
 abbrev decreases-messages : tie.decreases-messages
 decreases-messages words k m j₀ j = m - j

@@ -3,7 +3,6 @@ use Prim.Native.Nat.{ℕ, ◌-◌, ◌<◌, ◌≤◌}
 use mathlib.Core.Path.{◌≡◌, sym}
 use borrow.Author.Count.{below_none, below_more}
 use native.Mathlib.Omega.{arith}
-use Rattle.rules.specs.declared.Fault.TheVariants.{Clear}
 use Rattle.rules.proofs.Faults.{first-clear, first-at}
 use Rattle.rules.specs.Problem.{nodes}
 use Rattle.rules.specs.Rules.{node_fault}
@@ -11,9 +10,10 @@ use Rattle.wellformed.proofs.Words.{node-bad, node-clear}
 use borrow.Author.Rules.{rules}
 use Rattle.wellformed.proofs.nodes_fault.Statement.{statement}
 use Rattle.wellformed.proofs.nodes_fault.Tie as tie
+use Rattle.std.specs.Prelude.{Ok}
 
 abbrev invariant-loop : tie.invariant-loop-n
-invariant-loop words k m n₀ n = (n ≤ nodes) × ((i : ℕ) → i < n → node_fault words i ≡ Clear)
+invariant-loop words k m n₀ n = (n ≤ nodes) × ((i : ℕ) → i < n → node_fault words i ≡ Ok tt)
 
 abbrev decreases-loop : tie.decreases-loop-n
 decreases-loop words k m n₀ n = nodes - n

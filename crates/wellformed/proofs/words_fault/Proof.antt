@@ -15,7 +15,7 @@ returns-2 c =
     let at-enum-told = c in
     let at-columns-fault = at-enum-told in
     let start = at-columns-fault in
-    let clear = sym at-columns-fault.columns_fault-of_columns.ensures ∙ at-enum-told.in-Clear.is in
+    let clear = sym at-columns-fault.columns_fault-of_columns.ensures ∙ at-enum-told.in-Ok.is in
     words-of-messages _ _ _ start.requires.columns-are start.requires.messages-are clear _ _ c.messages_fault-of_messages.ensures c.in_default-of_messages.is
 
 returns-3 : tie.Need-returns
@@ -24,8 +24,8 @@ returns-3 c =
     let at-enum-told = at-messages-fault in
     let at-columns-fault = at-enum-told in
     let start = at-columns-fault in
-    let clear = sym at-columns-fault.columns_fault-of_columns.ensures ∙ at-enum-told.in-Clear.is in
-    let clear' = sym at-messages-fault.messages_fault-of_messages.ensures ∙ c.in-Clear-of_messages.is in
+    let clear = sym at-columns-fault.columns_fault-of_columns.ensures ∙ at-enum-told.in-Ok.is in
+    let clear' = sym at-messages-fault.messages_fault-of_messages.ensures ∙ c.in-Ok-of_messages.is in
     words-of-nodes _ _ _ start.requires.columns-are start.requires.messages-are clear _ clear' c.nodes_fault.ensures
 
 pub words_fault_spec : {M : Type 1} → statement M

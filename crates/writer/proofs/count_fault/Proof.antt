@@ -1,16 +1,16 @@
 -- The tests in their order: each is made where the ones before it have passed.
 use mathlib.Core.Path.{◌≡◌, sym, ◌∙◌}
-use Rattle.rules.specs.declared.Fault.TheVariants.{Clear}
 use Rattle.rules.specs.Rules.{header_fault}
 use Rattle.problem.specs.Callers.{said_count, layout_by}
 use Rattle.problem.proofs.Callers.{count-short, count-header, count-unlike, count-clear, header-few}
 use borrow.Author.Rules.{rules}
 use Rattle.writer.proofs.count_fault.Statement.{statement}
 use Rattle.writer.proofs.count_fault.Tie as tie
+use Rattle.std.specs.Prelude.{Ok}
 
 -- no fault was found in the header
-right : (c : tie.In-Clear) → header_fault c.args.words.now ≡ Clear
-right c = sym c.header_fault-of_header.ensures ∙ c.in-Clear.is
+right : (c : tie.In-Clear) → header_fault c.args.words.now ≡ Ok tt
+right c = sym c.header_fault-of_header.ensures ∙ c.in-Ok.is
 
 -- so many words are those of the version
 counted : (c : tie.After-said_for) →

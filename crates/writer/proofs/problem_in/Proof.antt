@@ -13,8 +13,8 @@ use Rattle.writer.proofs.problem_in.Tie as tie
 right : (c : tie.In_default) → Given c.args.words.now
 right c = given-right _ (sym c.count_fault-of_count.ensures ∙ c.in_default.is)
 
-returns : tie.Need-returns-in-Bad
-returns c = answered-bad _ refl (sym c.count_fault-of_count.ensures ∙ c.in-Bad.is)
+returns : tie.Need-returns-in-Err
+returns c = answered-bad _ refl (sym c.count_fault-of_count.ensures ∙ c.in-Err.is)
 
 shared-slice-read-wide : tie.Need-bounds-words-5
 shared-slice-read-wide c = omega (arith, (right c.before).long)

@@ -4,4 +4,4 @@ use Rattle.desk.proofs.commands.show_proposal.Goals as goal
 
 -- src/commands.rt:106:13
 pub bus_time-requires : goal.bus_time-requires
-bus_time-requires g c = accepted-some (rw c.in-Accepted.is at c.judge-got.ensures)
+bus_time-requires g c = accepted-some (rw c.in-Ok.is at c.judge-got.ensures)

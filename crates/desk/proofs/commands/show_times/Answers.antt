@@ -4,4 +4,4 @@ use Rattle.desk.proofs.commands.show_times.Goals as goal
 
 -- src/commands.rt:162:13
 pub events-requires : goal.events-requires
-events-requires g c = responding-ready (rw c.in-Done.is at c.responses-got.ensures)
+events-requires g c = responding-ready (rw c.in-Ok.is at c.responses-got.ensures)

@@ -4,4 +4,4 @@ use Rattle.files.proofs.input.decoded.Goals as goal
 
 -- src/input.rt:340:1
 pub returns-clause-prefix_len : goal.returns-clause-prefix_len
-returns-clause-prefix_len g c = prefix_len_of_le _ _ (c.decode-got.ensures.opens _ c.in-Problem.is).within
+returns-clause-prefix_len g c = prefix_len_of_le _ _ (c.decode-got.ensures.opens _ c.in-Ok.is).within

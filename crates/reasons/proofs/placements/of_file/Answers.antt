@@ -3,4 +3,4 @@ use Rattle.reasons.proofs.placements.of_file.Goals as goal
 
 -- src/placements.rt:416:27
 pub slice_bounds-words-end : goal.slice_bounds-words-end
-slice_bounds-words-end g c = (c.decode-got.ensures.opens _ c.in-Problem.is).within
+slice_bounds-words-end g c = (c.decode-got.ensures.opens _ c.in-Ok.is).within

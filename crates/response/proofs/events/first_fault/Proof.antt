@@ -4,15 +4,15 @@ use mathlib.Core.Path.{◌≡◌, sym, ◌∙◌}
 use native.Mathlib.Omega.{arith}
 use borrow.Author.Count.{below_none, below_more}
 use borrow.Author.Rules.{rules}
-use Rattle.rules.specs.declared.Fault.TheVariants.{Clear}
 use Rattle.rules.proofs.Faults.{first-at, first-clear}
 use Rattle.response.specs.Events.{count, event_fault}
 use Rattle.response.proofs.Faults.{fault-bad, fault-clear}
 use Rattle.response.proofs.events.first_fault.Statement.{statement}
 use Rattle.response.proofs.events.first_fault.Tie as tie
+use Rattle.std.specs.Prelude.{Ok}
 
 abbrev invariant-loop : tie.invariant-loop-j
-invariant-loop events n j₀ j = (j ≤ n) × (n ≡ count events) × ((k : ℕ) → k < j → event_fault events k ≡ Clear)
+invariant-loop events n j₀ j = (j ≤ n) × (n ≡ count events) × ((k : ℕ) → k < j → event_fault events k ≡ Ok tt)
 
 abbrev decreases-loop : tie.decreases-loop-j
 decreases-loop events n j₀ j = n - j

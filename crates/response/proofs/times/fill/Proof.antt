@@ -14,11 +14,11 @@ use Rattle.response.proofs.times.fill.Statement.{statement}
 use Rattle.response.proofs.times.fill.Tie as tie
 
 abbrev invariant-loop : tie.invariant-loop-i
-invariant-loop events spans times₀ n misses₀ i₀ times misses i =
-    (i ≤ n) × (n ≡ count events) × TimesWritten events times₀ times i × Gathered sum (λ k. miss (get_or times k 0)) i (1 * i) misses
+invariant-loop events spans times₀ n misses₀ i₀ times count_of i =
+    (i ≤ n) × (n ≡ count events) × TimesWritten events times₀ times i × Gathered sum (λ k. miss (get_or times k 0)) i (1 * i) count_of
 
 abbrev decreases-loop : tie.decreases-loop-i
-decreases-loop events spans times₀ n misses₀ i₀ times misses i = n - i
+decreases-loop events spans times₀ n misses₀ i₀ times count_of i = n - i
 
 loop-holds : tie.Need-loop-i-init invariant-loop decreases-loop
 loop-holds c = (search rules, c.count_of-n.ensures, times_none _ _, sum-none)

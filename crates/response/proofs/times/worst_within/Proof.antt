@@ -4,8 +4,7 @@ use Prim.Native.Nat.{◌+◌, ◌≤◌}
 use mathlib.Core.Path.{ap₂}
 use native.Mathlib.Omega.{arith}
 use borrow.Author.Rules.{rules}
-use Rattle.response.proofs.Waiting.{Timing, Waiting, Found, waiting-start, found-start, wait-most, next_fits, response-fits, ahead-fits, later-fits, release-fits, instance-fits}
-use Rattle.response.proofs.Waiting.{waiting-next, next-falls, release-before, instance-here, waiting-later, later-falls, found-more, found-above, found_all}
+use Rattle.response.proofs.Waiting.{Timing, Waiting, Found, waiting-start, found-start, wait-most, next_fits, response-fits, ahead-fits, later-fits, release-fits, instance-fits, waiting-next, next-falls, release-before, instance-here, waiting-later, later-falls, found-more, found-above, found_all}
 use Rattle.response.proofs.Turns.{left}
 use Rattle.response.proofs.times.worst_within.Statement.{statement}
 use Rattle.response.proofs.times.worst_within.Tie as tie
