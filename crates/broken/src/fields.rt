@@ -2,7 +2,6 @@
 // A wrong one is said by its name and value, and what it must be.
 ghost use Rattle.std.specs.Prelude.{◌<◌, ◌≤◌};
 
-use basics::wide;
 
 // No identifier is larger, and no frame has more data bytes.
 pub const MOST_IDENTIFIER: u32 = 2047;
@@ -21,7 +20,7 @@ pub fn word(words: &[u32], at: usize) -> u32 {
 pub fn field(words: &[u32], size: usize, j: u32, i: usize) -> u32
     requires { (size ≤ 7) × (i < 7) }
 {
-    word(words, size * wide(j) + i)
+    word(words, size * j as usize + i)
 }
 
 // The first record that begins with the same word as record j, which is its identifier.
@@ -57,14 +56,14 @@ pub fn range(name: &[u8], n: u32, low: u32, high: u32) {
 
 // An identifier that must be in its range.
 pub fn identifier(name: &[u8], id: u32) {
-    paper::say_hex(name, wide(id));
+    paper::say_hex(name, id as usize);
     paper::say_hex(b"; it must be ", 0);
-    paper::say_hex(b" to ", wide(MOST_IDENTIFIER));
+    paper::say_hex(b" to ", MOST_IDENTIFIER as usize);
 }
 
 // An identifier that something before has too.
 pub fn taken(id: u32, thing: &[u8], i: u32) {
-    paper::say_hex(b"identifier ", wide(id));
+    paper::say_hex(b"identifier ", id as usize);
     paper::say_number(thing, i);
     paper::say(b" has it too, and each must have its own");
 }

@@ -1,6 +1,6 @@
 // What is wrong with a header, or with the length that it gives a file or a problem's words.
 use super::fields::{identifier, range, value, word};
-use basics::{byte, wide};
+
 use problem::HEAD_BYTES;
 use problem::layout::{bytes_for, is_version, version_of};
 use rules::words;
@@ -51,8 +51,8 @@ fn column_words(text: &[u8]) -> usize {
 
 // The line of a problem's text that has a wrong count of words, if there is one record a line.
 pub fn wrong_record(words: &[u32], text: &[u8]) {
-    let columns = wide(word(words, words::COLUMNS));
-    let messages = wide(word(words, words::MESSAGES));
+    let columns = word(words, words::COLUMNS) as usize;
+    let messages = word(words, words::MESSAGES) as usize;
     wrong_line(
         text,
         Shape {
@@ -82,8 +82,8 @@ pub fn words_length(words: &[u32], text: &[u8]) {
         paper::say(b"; a problem has at least the 7 of its header");
         return;
     }
-    let columns = wide(word(words, words::COLUMNS));
-    let messages = wide(word(words, words::MESSAGES));
+    let columns = word(words, words::COLUMNS) as usize;
+    let messages = word(words, words::MESSAGES) as usize;
     let least = words::HEADER_WORDS + 2 * columns + words::MESSAGE_WORDS * messages;
     contents(columns, messages);
     paper::say_count(b" make ", least);
@@ -99,9 +99,9 @@ pub fn mark(file: &[u8]) {
     if file.len() < HEAD_BYTES {
         return;
     }
-    paper::say_number(b": the bytes ", byte(file[0]));
-    paper::say_number(b" ", byte(file[1]));
-    paper::say_number(b" ", byte(file[2]));
+    paper::say_number(b": the bytes ", u32::from(file[0]));
+    paper::say_number(b" ", u32::from(file[1]));
+    paper::say_number(b" ", u32::from(file[2]));
     paper::say(
         b" in front; a problem file has 84 83 77 there, the mark TSM, and a word list is not named .tsm",
     );
@@ -185,8 +185,8 @@ fn word_of(at: usize) -> usize {
 
 // The first wrong number of the header of a problem's words, which a text has.
 pub fn word_number(words: &[u32], text: &[u8], at: u32) {
-    origin::line(text, word_of(wide(at)));
-    rule(words, wide(at));
+    origin::line(text, word_of(at as usize));
+    rule(words, at as usize);
     wrong_header(text);
 }
 
@@ -196,13 +196,13 @@ pub fn file_number(file: &[u8], at: u32) {
         return;
     }
     paper::say_number(b", byte ", at);
-    if wide(at) == problem::LAST_AT {
+    if at as usize == problem::LAST_AT {
         paper::say(b": ");
-        value(b"the last byte of the header", byte(file[problem::LAST_AT]));
+        value(b"the last byte of the header", u32::from(file[problem::LAST_AT]));
         paper::say(b"0");
         return;
     }
     let mut head = [0u32; words::HEADER_WORDS];
     reader::read_header(file, &mut head);
-    rule(&head, wide(at));
+    rule(&head, at as usize);
 }

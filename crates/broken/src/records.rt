@@ -3,7 +3,7 @@ ghost use Rattle.std.specs.Prelude.{◌<◌};
 
 use super::fields::{field, range, word};
 use super::{fields, name};
-use basics::{FILL, is_outside, smaller, wide};
+use basics::{FILL, is_outside};
 use problem::Layout;
 use reader::answer::Read;
 use rules::words::{COLUMN_WORDS, MESSAGE_WORDS};
@@ -37,11 +37,11 @@ enum Rule {
 // The earliest place at which a column may start: where the reference window or the column before ends.
 fn earliest(words: &[u32], columns: &[u32], c: u32) -> usize {
     if c == 0 {
-        return wide(word(words, words::REF_LEN));
+        return word(words, words::REF_LEN) as usize;
     }
     let start = field(columns, COLUMN_WORDS, c - 1, words::START);
     let width = field(columns, COLUMN_WORDS, c - 1, words::WIDTH);
-    wide(start) + wide(width)
+    start as usize + width as usize
 }
 
 // The first rule that a column breaks.
@@ -54,7 +54,7 @@ fn of_column(words: &[u32], columns: &[u32], c: u32) -> Rule {
         Rule::Width
     } else if 0 < field(columns, COLUMN_WORDS, c, words::KIND) {
         Rule::Kind
-    } else if wide(start) < earliest(words, columns, c) {
+    } else if (start as usize) < earliest(words, columns, c) {
         Rule::Early
     } else {
         Rule::Beyond
@@ -135,10 +135,10 @@ enum Given {
 fn place(words: &[u32], text: &[u8], given: Given, k: usize)
     requires { k < 68719476736 }
 {
-    let columns = wide(word(words, words::COLUMNS));
+    let columns = word(words, words::COLUMNS) as usize;
     match given {
         Given::File(layout) => paper::say_count(b", byte ", origin::byte_at(k, columns, layout)),
-        Given::Text(size) => origin::line(text, origin::said_at(k, columns, smaller(size, 3))),
+        Given::Text(size) => origin::line(text, origin::said_at(k, columns, size.min(3))),
     }
 }
 
@@ -159,7 +159,7 @@ fn early(start: u32, from: usize, cycle: u32, c: u32) {
     fields::value(b"start", start);
     paper::say_count(b"at least ", from);
     before(c);
-    if wide(cycle) < from {
+    if (cycle as usize) < from {
         paper::say_number(b", beyond the basic cycle, ", cycle);
     }
 }
@@ -188,7 +188,7 @@ fn miscounted(given: Given, kind: u32) {
 fn beyond(words: &[u32], start: u32, width: u32) {
     paper::say_number(b"start ", start);
     paper::say_number(b" and width ", width);
-    paper::say_count(b" end at ", wide(start) + wide(width));
+    paper::say_count(b" end at ", start as usize + width as usize);
     paper::say_number(b"; it must end at ", word(words, words::CYCLE));
     paper::say(b", the basic cycle, or before");
 }
@@ -228,7 +228,7 @@ fn own(receivers: u32, sender: u32) {
 
 // The powers of two up to the rows, which a period may be of the basic cycle.
 fn powers(rows: u32) {
-    let most = smaller(wide(rows), words::MOST_ROWS);
+    let most = (rows as usize).min(words::MOST_ROWS);
     let mut n: usize = 1;
     paper::say(b" times 1");
     while n < most {
@@ -264,12 +264,12 @@ fn message(rule: Rule, words: &[u32], messages: &[u32], j: u32) {
     let id = field(messages, MESSAGE_WORDS, j, words::IDENTIFIER);
     let sender = field(messages, MESSAGE_WORDS, j, words::SENDER);
     let receivers = field(messages, MESSAGE_WORDS, j, words::RECEIVERS);
-    name(b", message ", wide(j), wide(id));
+    name(b", message ", j as usize, id as usize);
     paper::say(b": ");
     match rule {
         Rule::Identifier => fields::identifier(b"identifier ", id),
         Rule::Reference => {
-            paper::say_hex(b"identifier ", wide(id));
+            paper::say_hex(b"identifier ", id as usize);
             paper::say(b"; the reference message has it, and each must have its own");
         }
         Rule::Sender => range(b"sender", sender, 0, 15),
@@ -300,8 +300,8 @@ fn triggers(words: &[u32], node: u32) -> u32 {
     if words.len() < words::HEADER_WORDS {
         return 0;
     }
-    let columns = wide(words[words::COLUMNS]);
-    let messages = wide(words[words::MESSAGES]);
+    let columns = words[words::COLUMNS] as usize;
+    let messages = words[words::MESSAGES] as usize;
     if words::MOST_COLUMNS < columns {
         return 0;
     }
@@ -338,18 +338,18 @@ fn node(words: &[u32], n: u32) {
 fn messages_at(words: &[u32]) -> usize
     ensures { result < 17179869184 }
 {
-    words::HEADER_WORDS + COLUMN_WORDS * wide(word(words, words::COLUMNS))
+    words::HEADER_WORDS + COLUMN_WORDS * word(words, words::COLUMNS) as usize
 }
 
 // A column that breaks a rule.
 fn say_column(words: &[u32], text: &[u8], given: Given, c: u32) {
-    let at = smaller(words::HEADER_WORDS, words.len());
+    let at = words::HEADER_WORDS.min(words.len());
     let rule = of_column(words, &words[at..], c);
     place(
         words,
         text,
         given,
-        words::HEADER_WORDS + COLUMN_WORDS * wide(c) + word_of(rule),
+        words::HEADER_WORDS + COLUMN_WORDS * c as usize + word_of(rule),
     );
     column(rule, words, &words[at..], c);
     miscounted(given, field(&words[at..], COLUMN_WORDS, c, words::KIND));
@@ -366,13 +366,13 @@ fn of_message(q: Refusal, words: &[u32], messages: &[u32], j: u32) -> Rule {
 // A message that breaks a rule.
 fn say_message(q: Refusal, words: &[u32], text: &[u8], given: Given, j: u32) {
     let from = messages_at(words);
-    let at = smaller(from, words.len());
+    let at = from.min(words.len());
     let rule = of_message(q, words, &words[at..], j);
     place(
         words,
         text,
         given,
-        from + MESSAGE_WORDS * wide(j) + word_of(rule),
+        from + MESSAGE_WORDS * j as usize + word_of(rule),
     );
     message(rule, words, &words[at..], j);
 }
@@ -394,7 +394,7 @@ fn of_words(q: Refusal, words: &[u32], text: &[u8], given: Given) {
 // What is wrong with the words that were read into the front of a buffer.
 fn of_front(q: Refusal, got: Read, words: &[u32], text: &[u8], given: Given) {
     if let Read::Problem(n) = got {
-        of_words(q, &words[..smaller(n, words.len())], text, given);
+        of_words(q, &words[..n.min(words.len())], text, given);
     }
 }
 

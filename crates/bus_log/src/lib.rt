@@ -13,7 +13,7 @@ ghost use Rattle.bus_log.specs.Parts.{Agreeing, Begins};
 ghost use Rattle.bus_log.specs.Promise.{HoldingAccepted, Holding, DueAccepted, DueWritten};
 
 pub use answer::{Difference, Due, Held};
-use basics::{FILL, smaller, wide, wide_byte};
+use basics::FILL;
 use cells::{CELLS, cell_of};
 use reader::Read;
 use rules::{Refusal, words};
@@ -69,7 +69,7 @@ fn write_cells(p: &[u32], table: &[u8; CELLS], i: usize, list: &mut [u32]) -> us
     let mut at: usize = 0;
     let mut c: usize = 0;
     while c < columns {
-        let number = wide_byte(table[cell_of(row, c)]);
+        let number = usize::from(table[cell_of(row, c)]);
         at += write_cell(p, number, begin + words::start_of(p, c), &mut list[at..]);
         c += 1;
     }
@@ -142,7 +142,7 @@ pub fn due(file: &[u8], proposal: &[u32], span: u32, list: &mut [u32]) -> Due
     if basics::is_outside(span, 1, MOST_SPAN) {
         return Due::Refused(Refusal::Log);
     }
-    due_accepted(&buffer[..n], proposal, wide(span), list)
+    due_accepted(&buffer[..n], proposal, span as usize, list)
 }
 
 // ---- a log against it
@@ -152,10 +152,10 @@ fn agreeing(due: &[u32], later: usize, log: &[u32]) -> usize
     requires { (length due.now % 2 ≡ 0) × (length log.now % 2 ≡ 0) × (later < 4294967296) }
     ensures { Agreeing due.now later log.now result }
 {
-    let most = smaller(due.len(), log.len());
+    let most = due.len().min(log.len());
     let mut at: usize = 0;
     while at < most {
-        if wide(log[at]) != wide(due[at]) + later {
+        if log[at] as usize != due[at] as usize + later {
             break;
         }
         if log[at + 1] != due[at + 1] {
@@ -213,12 +213,12 @@ fn hold_accepted(p: &[u32], w: &[u32], log: &[u32], span: usize) -> Held
     };
     let all = n * span;
     let later = words::rows_of(p) * words::cycle_of(p);
-    let reach = smaller(log.len(), all);
+    let reach = log.len().min(all);
     let same = n + agreeing(&log[..reach - n], later, &log[n..reach]);
     if same < all {
         return Held::Differs(Difference {
             index: (same / PAIR) as u32,
-            time: (wide(log[same - n]) + later) as u32,
+            time: (log[same - n] as usize + later) as u32,
             identifier: log[same - n + 1],
         });
     }
@@ -244,5 +244,5 @@ pub fn hold(file: &[u8], proposal: &[u32], log: &[u32], span: u32) -> Held
     if (log.len() % PAIR != 0) | basics::is_outside(span, 1, MOST_SPAN) {
         return Held::Refused(Refusal::Log);
     }
-    hold_accepted(&buffer[..n], proposal, log, wide(span))
+    hold_accepted(&buffer[..n], proposal, log, span as usize)
 }

@@ -208,7 +208,7 @@ fn with_proposal<R: Env + Files + Input>(
     }
     match command {
         Command::Check => show_proposal(rt, View::Verdict, file, text, w, plan),
-        Command::Lists => listing::show(rt, file, text, w, plan, basics::wide(number)),
+        Command::Lists => listing::show(rt, file, text, w, plan, number as usize),
         Command::Hold => holding::hold_file(rt, file, text, w, plan, number),
         Command::Due => holding::show_due(rt, file, text, w, plan, number),
         _ => show_proposal(rt, View::Matrix, file, text, w, plan),

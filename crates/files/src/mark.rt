@@ -1,6 +1,6 @@
 // The mark of a problem, which a plan carries: a number that two problems hardly ever share, so that a plan is not used with another one.
 use super::input;
-use basics::{FILL, long};
+use basics::FILL;
 use origin::Subject;
 use reader::answer::Read;
 use rules::words;
@@ -14,7 +14,7 @@ const FIRST: u32 = 2166136261;
 
 // The mark with one word more.
 fn mixed(mark: u32, word: u32) -> u32 {
-    (long(mark ^ word) * PRIME % NO_NUMBER) as u32
+    (u64::from(mark ^ word) * PRIME % NO_NUMBER) as u32
 }
 
 // The mark of a problem's words.
@@ -44,7 +44,7 @@ fn is_of_other(rt: &impl Env, p: &[u32], plan: &[u8], subject: Subject) -> bool 
     if NO_NUMBER <= made {
         return false;
     }
-    if made == long(mark) {
+    if made == u64::from(mark) {
         return false;
     }
     say_other(rt, made as u32, mark, subject);

@@ -4,7 +4,7 @@
 ghost use Rattle.std.specs.Prelude.{◌<◌};
 ghost use Rattle.rules.specs.Problem.{WellFormed};
 
-use basics::{FILL, wide};
+use basics::FILL;
 use bus_log::{Difference, Due, Held, PAIR};
 use files::{input, pieces};
 use rules::words;
@@ -84,7 +84,7 @@ fn show_clean(sends: usize, span: u32) {
     paper::text(b"clean: ");
     paper::things(sends, b" send");
     paper::text(b" in ");
-    paper::things(wide(span), b" matrix cycle");
+    paper::things(span as usize, b" matrix cycle");
     paper::end_line();
 }
 
@@ -98,8 +98,8 @@ fn show_logged(p: &[u32], log: &[u32], pair: usize)
         paper::line(b"nothing, the log ends there");
         return;
     }
-    let identifier = wide(log[at + 1]);
-    show_pair(wide(log[at]), identifier);
+    let identifier = log[at + 1] as usize;
+    show_pair(log[at] as usize, identifier);
     name(bearer_of(p, identifier));
     paper::end_line();
 }
@@ -111,14 +111,14 @@ fn show_difference(p: &[u32], w: &[u32], log: &[u32], d: Difference)
     paper::say(b"differs\n");
     paper::text_number(b"differs at pair ", d.index);
     paper::line(b", counted from 0");
-    show_logged(p, log, wide(d.index));
+    show_logged(p, log, d.index as usize);
     paper::text(b"due there:  ");
     if d.identifier == bus_log::NOTHING {
         paper::line(b"nothing, the span ends there");
         return;
     }
-    let time = wide(d.time);
-    let identifier = wide(d.identifier);
+    let time = d.time as usize;
+    let identifier = d.identifier as usize;
     show_pair(time, identifier);
     describe(p, w, time, identifier);
     paper::end_line();
@@ -131,8 +131,8 @@ fn show_list(p: &[u32], w: &[u32], list: &[u32])
     paper::say(b"done\n");
     let mut at: usize = 0;
     while at + PAIR <= list.len() {
-        let time = wide(list[at]);
-        let identifier = wide(list[at + 1]);
+        let time = list[at] as usize;
+        let identifier = list[at + 1] as usize;
         paper::count(time);
         paper::text_hex(b" ", identifier);
         paper::text(b"  # ");

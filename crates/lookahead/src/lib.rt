@@ -113,7 +113,7 @@ fn possible(
         let k = places::table_at(m, r);
         let c = basics::lowest(table[k]);
         let rest = basics::clear_bit(left, m as u32);
-        places::beside(p, steps, table, rest, m, basics::wide(c), r, &mut next);
+        places::beside(p, steps, table, rest, m, c as usize, r, &mut next);
         if possible(p, steps, &mut next, rest, prices, seen, deep - 1) {
             places::note(seen, m, c, r);
             return true;

@@ -79,10 +79,10 @@ fn survey(
         if basics::has_bit(left, j as u32) {
             let step = steps[j];
             let offer = prices::cheapest(table, sums, j, step);
-            let met = mark(uses, rows, step, basics::wide(offer.column), offer.row);
+            let met = mark(uses, rows, step, offer.column as usize, offer.row);
             clash = clash | met;
             least[j] = offer.cost;
-            cost += basics::long(offer.cost);
+            cost += u64::from(offer.cost);
             places::note(seen, j, offer.column, offer.row);
         }
         j += 1;
@@ -94,7 +94,7 @@ fn survey(
 fn weight(price: u16, uses: u8) -> u64
     ensures { result ≤ most_price }
 {
-    let g = basics::long(basics::byte(uses));
+    let g = u64::from(u32::from(uses));
     if g == 0 {
         return if price == 0 { 0 } else { 1 };
     }
@@ -109,7 +109,7 @@ fn weight_in(prices: &[u16; prices::CELLS], uses: &[u8; prices::CELLS], i: usize
     let mut n: u64 = 0;
     let mut z = x;
     while z != 0 {
-        let k = prices::cell_at(i, basics::wide(basics::lowest(z)));
+        let k = prices::cell_at(i, basics::lowest(z) as usize);
         n += weight(prices[k], uses[k]);
         z = basics::drop_lowest(z);
     }
@@ -154,16 +154,16 @@ fn share(gap: u64, weight: u64) -> u32
 fn raised(price: u16, d: u32) -> u16
     requires { d ≤ 256 * most_price }
 {
-    prices::smaller(prices::wide(price) + d, MOST_PRICE) as u16
+    (u32::from(price) + d).min(MOST_PRICE) as u16
 }
 
 // A price behind a step: less by d where nobody uses the cell, more by d for each use beyond one.
 fn moved(price: u16, uses: u8, d: u32) -> u16
     requires { d ≤ most_price }
 {
-    let g = basics::byte(uses);
+    let g = u32::from(uses);
     if g == 0 {
-        let y = prices::wide(price);
+        let y = u32::from(price);
         return if d < y { (y - d) as u16 } else { 0 };
     }
     raised(price, (g - 1) * d)
@@ -185,7 +185,7 @@ fn step(
     while i < rows {
         let mut z = u[i];
         while z != 0 {
-            let k = prices::cell_at(i, basics::wide(basics::lowest(z)));
+            let k = prices::cell_at(i, basics::lowest(z) as usize);
             prices[k] = moved(prices[k], uses[k], d);
             z = basics::drop_lowest(z);
         }
@@ -210,7 +210,7 @@ fn spread(
     while i < rows {
         let mut z = table[places::table_at(j, i % step)];
         while z != 0 {
-            let k = prices::cell_at(i, basics::wide(basics::lowest(z)));
+            let k = prices::cell_at(i, basics::lowest(z) as usize);
             prices[k] = raised(prices[k], d);
             z = basics::drop_lowest(z);
         }

@@ -77,7 +77,7 @@ fn add_row(p: &[u32], table: &[u8; cells::CELLS], i: usize, t: Tally) -> Tally
     while c < columns {
         let next = add_cell(
             sum,
-            held_for(p, basics::wide_byte(table[cells::cell_of(i, c)])),
+            held_for(p, usize::from(table[cells::cell_of(i, c)])),
             words::width_of(p, c),
         );
         sum = next;

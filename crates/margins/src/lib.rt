@@ -7,7 +7,6 @@ ghost use Rattle.rules.specs.Parts.{Member};
 ghost use Rattle.margins.specs.Margins.{MarginAt, MarginOf};
 ghost use Rattle.margins.specs.Shares.{Nearest, whole, most_part};
 
-use basics::wide;
 use losses::BusTime;
 use rules::{Fault, placing, words};
 
@@ -82,7 +81,7 @@ pub fn share_of(p: &[u32], j: usize) -> usize
 pub fn whole_of(t: BusTime) -> usize
     ensures { (result ≡ whole t) × (t.reference ≤ result) }
 {
-    wide(t.reference) + wide(t.used) + wide(t.in_window) + wide(t.empty) + wide(t.gaps)
+    t.reference as usize + t.used as usize + t.in_window as usize + t.empty as usize + t.gaps as usize
 }
 
 // The load of the bus: the share of the time in which a reference message or a frame is sent.
@@ -90,5 +89,5 @@ pub fn load_of(t: BusTime) -> usize
     requires { 1 ≤ t.reference }
     ensures { Nearest (t.reference + t.used) (whole t) result }
 {
-    share(wide(t.reference) + wide(t.used), whole_of(t))
+    share(t.reference as usize + t.used as usize, whole_of(t))
 }

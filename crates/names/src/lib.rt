@@ -3,7 +3,7 @@
 
 ghost use Rattle.std.specs.Prelude.{◌≤◌, length};
 
-use basics::{has_bit, wide};
+use basics::has_bit;
 use sheet::Kind;
 
 // How many nodes there are.
@@ -79,7 +79,7 @@ pub fn nodes(text: &[u8], mask: u32, word: &[u8], between: &[u8]) {
             if is_any {
                 paper::text(between);
             }
-            called(text, Kind::Node, wide(n), word);
+            called(text, Kind::Node, n as usize, word);
             is_any = true;
         }
         n += 1;

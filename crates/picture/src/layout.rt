@@ -3,7 +3,6 @@ ghost use Rattle.std.specs.Prelude.{◌*◌, ◌≤◌, ◌<◌};
 ghost use Rattle.rules.specs.Problem.{WellFormed};
 ghost use Rattle.picture.specs.Drawn.{Drawn, longest, widest, farthest, lowest, most_characters};
 
-use basics::smaller;
 use rules::words;
 use sheet::Kind;
 use sheet::slips::MOST_NAME;
@@ -102,7 +101,7 @@ pub fn label_length(text: &[u8], kind: Kind, i: usize, otherwise: usize) -> usiz
     requires { otherwise ≤ 5 }
     ensures { result ≤ most_characters }
 {
-    let own = smaller(names::length(text, kind, i), MOST_NAME);
+    let own = names::length(text, kind, i).min(MOST_NAME);
     if own == 0 {
         return otherwise;
     }
@@ -141,7 +140,7 @@ fn area_of(p: &[u32], text: &[u8]) -> usize
         }
         j += 1;
     }
-    smaller(most, MOST_AREA)
+    most.min(MOST_AREA)
 }
 
 // Whether the name of each window fits above it.
@@ -168,7 +167,7 @@ fn names_height(text: &[u8], columns: usize, is_slanted: bool) -> usize
     if !is_slanted {
         return LEVEL;
     }
-    LEVEL + SLANTED * smaller(names::width(text, Kind::Column, columns), MOST_NAME)
+    LEVEL + SLANTED * names::width(text, Kind::Column, columns).min(MOST_NAME)
 }
 
 // The scale of a problem.

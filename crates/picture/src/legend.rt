@@ -5,7 +5,6 @@ ghost use Rattle.picture.specs.Drawn.{lowest};
 
 use super::layout::LEFT;
 use super::svg;
-use basics::wide;
 use losses::BusTime;
 use rules::words;
 use sheet::Kind;
@@ -81,7 +80,7 @@ fn parts(figures: &[u32; FIGURES], whole: usize, y: usize)
 {
     let mut i: usize = 0;
     while i < FIGURES {
-        let part = wide(figures[i]);
+        let part = figures[i] as usize;
         let line = y + (i + 1) * LINE;
         figure(part, line);
         share(margins::share(part, whole), line);
@@ -133,7 +132,7 @@ fn senders(p: &[u32], text: &[u8], y: usize)
 {
     let mut k: usize = 0;
     let mut n: usize = 0;
-    while n < wide(words::NODES) {
+    while n < words::NODES as usize {
         if is_sender(p, n) {
             sender(text, n, k, y);
             k += 1;

@@ -147,7 +147,7 @@ fn strike(
     while j < count {
         if basics::has_bit(left, j as u32) {
             let step = steps[j];
-            let common = basics::smaller(steps[m], step);
+            let common = steps[m].min(step);
             let mut i = r % common;
             while i < step {
                 let k = table_at(j, i);
@@ -204,7 +204,7 @@ pub fn count_of(table: &[u32; TABLE_WORDS], j: usize, step: usize) -> usize
     let mut n = 0;
     let mut r = 0;
     while r < step {
-        n += basics::wide(basics::ones_of(table[table_at(j, r)]));
+        n += basics::ones_of(table[table_at(j, r)]) as usize;
         r += 1;
     }
     n

@@ -60,7 +60,7 @@ fn unplaced(at: usize, count: usize) -> u32
 fn stands_at(plan: &[u32; PLAN_WORDS], j: usize, c: usize, r: usize) -> bool
     requires { j < most_planned }
 {
-    (basics::wide(plan[2 * j]) == c) & (basics::wide(plan[2 * j + 1]) == r)
+    (plan[2 * j] as usize == c) & (plan[2 * j + 1] as usize == r)
 }
 
 // The least proposal that begins with the placements of the first `at` messages, or that there is none. The search calls itself on the

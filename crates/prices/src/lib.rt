@@ -49,26 +49,6 @@ pub fn sum_at(s: usize, r: usize, c: usize) -> usize
     words::MOST_COLUMNS * (s + r) + c
 }
 
-// A price as a word, and as one of 64 bits.
-pub fn wide(x: u16) -> u32
-    ensures { (result ≡ x) × (result ≤ most_price) }
-{
-    x as u32
-}
-
-fn long(x: u16) -> u64
-    ensures { (result ≡ x) × (result ≤ most_price) }
-{
-    x as u64
-}
-
-// The smaller of two words: all that is said is that it is more than neither.
-pub fn smaller(a: u32, b: u32) -> u32
-    ensures { (result ≤ a) × (result ≤ b) }
-{
-    if a < b { a } else { b }
-}
-
 // The columns of row i in which a message of `left` may be sent, and the same for each row.
 fn joint_in(
     p: &[u32],
@@ -122,7 +102,7 @@ fn worth_in(prices: &[u16; CELLS], i: usize, x: u32) -> u64
     let mut t: u64 = 0;
     let mut z = x;
     while z != 0 {
-        t += long(prices[cell_at(i, basics::wide(basics::lowest(z)))]);
+        t += u64::from(prices[cell_at(i, basics::lowest(z) as usize)]);
         z = basics::drop_lowest(z);
     }
     t
@@ -164,7 +144,7 @@ pub fn add_up(p: &[u32], prices: &[u16; CELLS], sums: &mut [u32; SUMS])
     let mut n = words::MOST_COLUMNS * words::rows_of(p);
     let mut k = 0;
     while k < n {
-        sums[n + k] = wide(prices[k]);
+        sums[n + k] = u32::from(prices[k]);
         k += 1;
     }
     while words::MOST_COLUMNS < n {
@@ -191,7 +171,7 @@ pub fn cheapest(
         let mut z = table[places::table_at(j, r)];
         while z != 0 {
             let c = basics::lowest(z);
-            let s = sums[sum_at(step, r, basics::wide(c))];
+            let s = sums[sum_at(step, r, c as usize)];
             if s < cost {
                 cost = s;
                 column = c;
@@ -213,7 +193,7 @@ fn paid_in(sums: &[u32; SUMS], step: usize, r: usize, x: u32, others: u64, most:
     let mut z = x;
     while z != 0 {
         let c = basics::lowest(z);
-        if most < others + basics::long(smaller(DEAREST, sums[sum_at(step, r, basics::wide(c))])) {
+        if most < others + u64::from(DEAREST.min(sums[sum_at(step, r, c as usize)])) {
             kept = basics::clear_bit(kept, c);
         }
         z = basics::drop_lowest(z);
@@ -247,7 +227,7 @@ pub fn narrow(
     while j < count {
         if basics::has_bit(left, j as u32) {
             let step = steps[j];
-            let most = worth + basics::long(least[j]);
+            let most = worth + u64::from(least[j]);
             let mut r = 0;
             while r < step {
                 let k = places::table_at(j, r);

@@ -14,7 +14,7 @@ ghost use Rattle.reader.specs.Promise.{Taken, Decoded, Reading};
 ghost use Rattle.reader.specs.Parts.{Sized};
 
 pub use answer::Read;
-use basics::{FILL, byte, wide_byte};
+use basics::FILL;
 use problem::Layout;
 use problem::layout::{
     bytes_for, column_size, identifier_size, is_version, layout_of, message_size,
@@ -28,7 +28,7 @@ pub fn two_bytes(s: &[u8], at: usize) -> u32
     requires { at + 2 ≤ length s.now }
     ensures { (result ≡ two s.now at) × (result < 65536) }
 {
-    byte(s[at]) * 256 + byte(s[at + 1])
+    u32::from(s[at]) * 256 + u32::from(s[at + 1])
 }
 
 // The number that four bytes are.
@@ -53,13 +53,13 @@ pub fn read_header(file: &[u8], words: &mut [u32])
     requires { (head_bytes ≤ length file.now) × (length words.old ≡ header_words) }
     ensures { words.new ≡ header_of file.now }
 {
-    words[words::ROWS] = byte(file[problem::ROWS_AT]);
+    words[words::ROWS] = u32::from(file[problem::ROWS_AT]);
     words[words::CYCLE] = two_bytes(file, problem::CYCLE_AT);
     words[words::REF_LEN] = two_bytes(file, problem::REF_LEN_AT);
     words[words::REF_ID] = two_bytes(file, problem::REF_ID_AT);
-    words[words::LIMIT] = byte(file[problem::LIMIT_AT]);
-    words[words::COLUMNS] = byte(file[problem::COLUMNS_AT]);
-    words[words::MESSAGES] = byte(file[problem::MESSAGES_AT]);
+    words[words::LIMIT] = u32::from(file[problem::LIMIT_AT]);
+    words[words::COLUMNS] = u32::from(file[problem::COLUMNS_AT]);
+    words[words::MESSAGES] = u32::from(file[problem::MESSAGES_AT]);
 }
 
 // The kind in a column's record.
@@ -69,7 +69,7 @@ fn kind_in(layout: Layout, bytes: &[u8]) -> u32
 {
     match layout {
         Layout::One => 0,
-        Layout::Two => byte(bytes[4]),
+        Layout::Two => u32::from(bytes[4]),
     }
 }
 
@@ -114,8 +114,8 @@ fn read_rest(bytes: &[u8], words: &mut [u32])
     requires { (length bytes.now ≡ 16) × (length words.old ≡ 7) }
     ensures { words.new ≡ get_or words.old 0 0 ∷ rest_of bytes.now }
 {
-    words[words::SENDER] = byte(bytes[0]);
-    words[words::SIZE] = byte(bytes[1]);
+    words[words::SENDER] = u32::from(bytes[0]);
+    words[words::SIZE] = u32::from(bytes[1]);
     words[words::RECEIVERS] = two_bytes(bytes, 2);
     words[words::PERIOD] = four_bytes(bytes, 4);
     words[words::OFFSET] = four_bytes(bytes, 8);
@@ -160,7 +160,7 @@ pub fn columns_in(file: &[u8]) -> usize
     requires { head_bytes ≤ length file.now }
     ensures { (result ≡ columns_in file.now) × (result < 256) }
 {
-    wide_byte(file[problem::COLUMNS_AT])
+    usize::from(file[problem::COLUMNS_AT])
 }
 
 // How many messages the file says that it has.
@@ -168,7 +168,7 @@ pub fn messages_in(file: &[u8]) -> usize
     requires { head_bytes ≤ length file.now }
     ensures { (result ≡ messages_in file.now) × (result < 256) }
 {
-    wide_byte(file[problem::MESSAGES_AT])
+    usize::from(file[problem::MESSAGES_AT])
 }
 
 // What is wrong with the header or the length.

@@ -2,7 +2,7 @@
 ghost use Rattle.std.specs.Prelude.{◌<◌, ◌≤◌};
 ghost use Rattle.reasons.specs.Shares.{most_shares, most_load};
 
-use basics::{is_outside, smaller, wide};
+use basics::is_outside;
 use broken::fields::{field, range};
 use broken::{fields, name};
 use response::{
@@ -87,8 +87,8 @@ fn begin(events: &[u32], text: &[u8], j: u32, at: usize)
     requires { at < 5 }
 {
     let id = field(events, EVENT_WORDS, j, IDENTIFIER);
-    origin::line(text, EVENT_WORDS * wide(j) + at);
-    name(b", event ", wide(j), wide(id));
+    origin::line(text, EVENT_WORDS * j as usize + at);
+    name(b", event ", j as usize, id as usize);
     paper::say(b": ");
 }
 
@@ -104,14 +104,14 @@ fn shares_of(events: &[u32], j: u32) -> usize
     ensures { result ≤ most_shares }
 {
     let data = field(events, EVENT_WORDS, j, DATA);
-    let period = wide(field(events, EVENT_WORDS, j, PERIOD));
+    let period = field(events, EVENT_WORDS, j, PERIOD) as usize;
     if fields::MOST_DATA < data {
         return 0;
     }
     if period == 0 {
         return 0;
     }
-    (frame_bits(wide(data)) * WHOLE + (period - 1)) / period
+    (frame_bits(data as usize) * WHOLE + (period - 1)) / period
 }
 
 // The same; none if it has a lower priority than an identifier.
@@ -129,7 +129,7 @@ fn shares_with(events: &[u32], j: u32) -> usize
     ensures { result ≤ most_load }
 {
     let id = field(events, EVENT_WORDS, j, IDENTIFIER);
-    let n = smaller(events.len() / EVENT_WORDS, MOST_EVENTS) as u32;
+    let n = (events.len() / EVENT_WORDS).min(MOST_EVENTS) as u32;
     let mut total: usize = 0;
     let mut i: u32 = 0;
     while i < n {

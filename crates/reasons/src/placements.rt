@@ -4,7 +4,7 @@ ghost use Rattle.rules.specs.Problem.{WellFormed, Gives};
 ghost use Rattle.rules.specs.Parts.{Member};
 
 use super::alone;
-use basics::{FILL, wide};
+use basics::FILL;
 use broken::name;
 use origin::Subject;
 use problem::recast::column_words;
@@ -361,10 +361,10 @@ fn of_plan(
     origin::named(rt, b", ", origin::plan_at(subject));
     match q {
         Refusal::ProposalLength => word_count(p, w, plan),
-        Refusal::Range(j) => one(q, p, text, size, w, plan, wide(j), subject),
-        Refusal::Width(j) => one(q, p, text, size, w, plan, wide(j), subject),
-        Refusal::Late(j) => one(q, p, text, size, w, plan, wide(j), subject),
-        Refusal::Meeting(j, i) => two(p, text, size, w, plan, wide(j), wide(i), subject),
+        Refusal::Range(j) => one(q, p, text, size, w, plan, j as usize, subject),
+        Refusal::Width(j) => one(q, p, text, size, w, plan, j as usize, subject),
+        Refusal::Late(j) => one(q, p, text, size, w, plan, j as usize, subject),
+        Refusal::Meeting(j, i) => two(p, text, size, w, plan, j as usize, i as usize, subject),
         _ => {}
     }
 }

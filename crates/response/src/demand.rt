@@ -5,7 +5,6 @@ ghost use Rattle.response.specs.Times.{wins, takes, blocked_by, blocking, ceilin
 ghost use Rattle.response.specs.Parts.{Member, Figure, shortest_frame, longest_frame, longest_span, most_arrivals, most_interference, most_demand};
 
 use super::events::{DATA, DEADLINE, IDENTIFIER, JITTER, PERIOD, count_of, word};
-use basics::wide;
 use rules::words::frame_bits;
 
 // Event j's identifier.
@@ -21,7 +20,7 @@ pub(crate) fn period_of(events: &[u32], j: usize) -> usize
     requires { Member events.now j }
     ensures { Figure (period events.now j) 1 longest_period result }
 {
-    wide(word(events, j, PERIOD))
+    word(events, j, PERIOD) as usize
 }
 
 // Event j's jitter.
@@ -29,7 +28,7 @@ pub(crate) fn jitter_of(events: &[u32], j: usize) -> usize
     requires { Member events.now j }
     ensures { Figure (jitter events.now j) 0 longest_period result }
 {
-    wide(word(events, j, JITTER))
+    word(events, j, JITTER) as usize
 }
 
 // Event j's deadline.
@@ -37,7 +36,7 @@ pub(crate) fn deadline_of(events: &[u32], j: usize) -> usize
     requires { Member events.now j }
     ensures { Figure (deadline events.now j) 1 longest_period result }
 {
-    wide(word(events, j, DEADLINE))
+    word(events, j, DEADLINE) as usize
 }
 
 // How long a frame of event j takes.
@@ -45,7 +44,7 @@ pub(crate) fn frame_of(events: &[u32], j: usize) -> usize
     requires { Member events.now j }
     ensures { Figure (takes events.now j) shortest_frame longest_frame result }
 {
-    frame_bits(wide(word(events, j, DATA)))
+    frame_bits(word(events, j, DATA) as usize)
 }
 
 // Whether event j has a higher priority than event i.
@@ -67,16 +66,6 @@ fn blocked_by(events: &[u32], i: usize, j: usize) -> usize
     0
 }
 
-// The larger of two.
-fn larger(a: usize, b: usize) -> usize
-    ensures { result ≡ max a b }
-{
-    if a < b {
-        return b;
-    }
-    a
-}
-
 // The longest frame of lower priority than event i's.
 pub(crate) fn blocking_of(events: &[u32], i: usize) -> usize
     requires { Member events.now i }
@@ -86,7 +75,7 @@ pub(crate) fn blocking_of(events: &[u32], i: usize) -> usize
     let mut most: usize = 0;
     let mut j: usize = 0;
     while j < n {
-        most = larger(most, blocked_by(events, i, j));
+        most = most.max(blocked_by(events, i, j));
         j += 1;
     }
     most
@@ -97,7 +86,7 @@ fn ceiling_of(a: usize, b: usize) -> usize
     requires { (a ≤ most_arrivals) × (1 ≤ b) × (b ≤ longest_period) }
     ensures { Figure (ceiling a b) 0 most_arrivals result }
 {
-    wide((a + (b - 1)) as u32 / b as u32)
+    ((a + (b - 1)) as u32 / b as u32) as usize
 }
 
 // How many frames of event j can be queued within a span.

@@ -10,7 +10,6 @@ use super::demand::{
     arrivals_of, blocking_of, deadline_of, demand_of, frame_of, jitter_of, period_of,
 };
 use super::events::{LONGEST_PERIOD, count_of};
-use basics::wide;
 
 // How long an event's busy period is, the longest response of the instances in it, and the first instance that has it.
 #[derive(Drop)]
@@ -76,8 +75,8 @@ pub fn worst_of(events: &[u32], i: usize) -> Worst
     requires { Member events.now i × (endless events.now i ≡ false) }
     ensures { Response events.now i result.span result.instance result.response }
 {
-    let span = wide(busy_of(events, i));
-    worst_within(events, i, span, LONGEST_BUSY + wide(LONGEST_PERIOD))
+    let span = busy_of(events, i) as usize;
+    worst_within(events, i, span, LONGEST_BUSY + LONGEST_PERIOD as usize)
 }
 
 // Event i's response time, from its busy period, or 0 if it misses its deadline.
@@ -112,7 +111,7 @@ pub(crate) fn fill(events: &[u32], spans: &[u32], times: &mut [u32]) -> u32
     let mut misses: u32 = 0;
     let mut i: usize = 0;
     while i < n {
-        let t = time_of(events, i, wide(spans[i]));
+        let t = time_of(events, i, spans[i] as usize);
         times[i] = t;
         misses += miss_of(t);
         i += 1;

@@ -71,7 +71,7 @@ pub fn word(words: &[u32], at: usize) -> usize
     requires { at < length words.now }
     ensures { (result ≡ get_or words.now at 0) × (result < 4294967296) }
 {
-    basics::wide(words[at])
+    words[at] as usize
 }
 
 // Where the words of column c stand, and behind k columns those of message j. So many words are k columns and j messages.

@@ -77,7 +77,7 @@ pub fn count(call: u8, bytes: usize) -> usize {
 // What stands in the buffer where a call wrote nothing.
 pub fn pattern(call: u8) -> u32 {
     if writes_bytes(call) {
-        return basics::byte(BYTE_PATTERN);
+        return u32::from(BYTE_PATTERN);
     }
     WORD_PATTERN
 }
@@ -85,14 +85,14 @@ pub fn pattern(call: u8) -> u32 {
 // An answer; none has a second output yet.
 fn numbers(told: Paper, figures: [u32; FIGURES], written: usize) -> [u64; NUMBERS] {
     [
-        basics::long(told.number),
-        basics::long(told.place),
-        basics::long(told.second),
-        basics::long(figures[0]),
-        basics::long(figures[1]),
-        basics::long(figures[2]),
-        basics::long(figures[3]),
-        basics::long(figures[4]),
+        u64::from(told.number),
+        u64::from(told.place),
+        u64::from(told.second),
+        u64::from(figures[0]),
+        u64::from(figures[1]),
+        u64::from(figures[2]),
+        u64::from(figures[3]),
+        u64::from(figures[4]),
         written as u64,
         0,
     ]
@@ -273,7 +273,7 @@ pub fn name(call: u8) {
         REPLAN => paper::text(b"replan"),
         _ => {
             paper::text(b"call ");
-            paper::number(basics::byte(call));
+            paper::number(u32::from(call));
         }
     }
 }

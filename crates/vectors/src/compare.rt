@@ -9,13 +9,13 @@ use crate::record::{BLOCK_BYTES, FIGURES};
 fn number_at(block: &[u8; BLOCK_BYTES], at: usize) -> u64
     requires { at + 4 ≤ 41 }
 {
-    basics::long(record::number_at(block, at))
+    u64::from(record::number_at(block, at))
 }
 
 // The answer that is expected, from the record's block and the lengths of the outputs.
 pub fn expected(block: &[u8; BLOCK_BYTES], written: usize, written_2: usize) -> [u64; NUMBERS] {
     [
-        basics::long(basics::byte(block[record::NUMBER])),
+        u64::from(u32::from(block[record::NUMBER])),
         number_at(block, record::PLACE),
         number_at(block, record::SECOND_PLACE),
         number_at(block, FIGURES),
@@ -94,10 +94,10 @@ pub fn compare(
     }
     let i = first_changed(buffer, output, pattern);
     if i < buffer.len() {
-        let there = basics::long(wanted(output, i, pattern));
+        let there = u64::from(wanted(output, i, pattern));
         return Difference::Buffer(Unlike {
             at: i,
-            is: basics::long(buffer[i]),
+            is: u64::from(buffer[i]),
             expected: there,
         });
     }

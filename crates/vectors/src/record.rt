@@ -64,7 +64,7 @@ pub enum Number {
 
 // The number that four bytes are.
 fn joined(a: u8, b: u8, c: u8, d: u8) -> u32 {
-    ((basics::byte(a) * 256 + basics::byte(b)) * 256 + basics::byte(c)) * 256 + basics::byte(d)
+    ((u32::from(a) * 256 + u32::from(b)) * 256 + u32::from(c)) * 256 + u32::from(d)
 }
 
 // The number of four bytes at a place of the block.
@@ -81,7 +81,7 @@ pub fn span(block: &[u8; BLOCK_BYTES]) -> u32 {
 
 // How many words or bytes are lent for the output.
 pub fn room(block: &[u8; BLOCK_BYTES]) -> usize {
-    basics::wide(number_at(block, ROOM))
+    number_at(block, ROOM) as usize
 }
 
 // Reads a number of four bytes.
@@ -112,7 +112,7 @@ fn read_text<F: Read>(file: &mut F, buffer: &mut [u8]) -> Part {
     let Number::Is(count) = length else {
         return Part::CutShort;
     };
-    read_bytes(file, basics::wide(count), buffer)
+    read_bytes(file, count as usize, buffer)
 }
 
 // Reads a part of words: how many, then four bytes each.
@@ -121,7 +121,7 @@ fn read_list<F: Read>(file: &mut F, buffer: &mut [u8]) -> Part {
     let Number::Is(count) = length else {
         return Part::CutShort;
     };
-    read_bytes(file, WORD * basics::wide(count), buffer)
+    read_bytes(file, WORD * count as usize, buffer)
 }
 
 // Reads list C, a log, and past list D, which no call takes yet; answers how many bytes the log has.
@@ -243,7 +243,7 @@ pub fn spread(from: &[u8], words: &mut [u32]) -> usize
 {
     let mut i: usize = 0;
     while i < from.len() && i < words.len() {
-        words[i] = basics::byte(from[i]);
+        words[i] = u32::from(from[i]);
         i += 1;
     }
     i

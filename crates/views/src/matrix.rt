@@ -4,7 +4,6 @@ ghost use Rattle.std.specs.Prelude.{◌<◌, ◌≤◌};
 ghost use Rattle.rules.specs.Problem.{WellFormed, columns};
 ghost use Rattle.rules.specs.Parts.{Member};
 
-use basics::smaller;
 use rules::words;
 
 // How many characters a column of the table has: an identifier, a mark and a space.
@@ -200,7 +199,7 @@ pub fn show(p: &[u32], w: &[u32], kept: &[u32], form: Form)
     let size = block_size(columns);
     let mut from: usize = 0;
     while from < columns {
-        show_block(p, w, kept, form, from, smaller(from + size, columns));
+        show_block(p, w, kept, form, from, (from + size).min(columns));
         from += size;
     }
 }

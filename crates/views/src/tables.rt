@@ -6,7 +6,6 @@ ghost use Rattle.response.specs.Events.{event_words, most_events};
 ghost use Rattle.response.specs.Parts.{Ready};
 ghost use Rattle.rules.specs.Parts.{Member};
 
-use basics::wide;
 use losses::BusTime;
 use response::{EVENT_WORDS, Worst};
 use rules::words;
@@ -25,7 +24,7 @@ fn item(name: &[u8], n: usize) {
 pub fn header(p: &[u32], version: u32)
     requires { WellFormed p.now }
 {
-    item(b"file version", basics::wide(version));
+    item(b"file version", version as usize);
     item(b"basic cycles", words::rows_of(p));
     item(b"basic cycle length", words::cycle_of(p));
     item(b"reference window", words::ref_len_of(p));
@@ -163,7 +162,7 @@ pub fn proposal_words(p: &[u32], w: &[u32], mark: u32)
 fn share(figure: u32, whole: usize) -> usize
     requires { 1 ≤ whole }
 {
-    (2 * wide(figure) * paper::ALL / whole + 1) / 2
+    (2 * figure as usize * paper::ALL / whole + 1) / 2
 }
 
 // One figure, by its name, and its share of the whole.
@@ -180,7 +179,7 @@ fn loss(name: &[u8], figure: u32, whole: usize)
 pub fn bus_time(t: BusTime)
     requires { 1 ≤ t.reference }
 {
-    let whole = wide(t.reference) + wide(t.used) + wide(t.in_window) + wide(t.empty) + wide(t.gaps);
+    let whole = t.reference as usize + t.used as usize + t.in_window as usize + t.empty as usize + t.gaps as usize;
     paper::text_count(b"losses over one matrix cycle of ", whole);
     paper::end_line();
     loss(b"reference", t.reference, whole);
@@ -197,7 +196,7 @@ fn event(e: &[u32], worst: Worst)
     requires { event_words ≤ length e.now }
 {
     let deadline = e[response::DEADLINE];
-    paper::right_hex(wide(e[response::IDENTIFIER]), 6);
+    paper::right_hex(e[response::IDENTIFIER] as usize, 6);
     paper::right(e[response::DATA], 6);
     paper::right(e[response::PERIOD], 9);
     paper::right(e[response::JITTER], 9);
@@ -205,7 +204,7 @@ fn event(e: &[u32], worst: Worst)
     paper::right_count(worst.response, 10);
     paper::right_count(worst.instance, 9);
     paper::right_count(worst.span, 10);
-    if wide(deadline) < worst.response {
+    if (deadline as usize) < worst.response {
         paper::right_text(b"missed", 8);
     }
     paper::end_line();
@@ -242,7 +241,7 @@ fn entry(e: &[u32])
     } else {
         paper::text(b"  receives  ");
     }
-    paper::right_hex(wide(e[0] % KIND_WEIGHT), 0);
+    paper::right_hex((e[0] % KIND_WEIGHT) as usize, 0);
     paper::end_line();
 }
 
@@ -251,7 +250,7 @@ pub fn list_end(lists: &[u32], at: usize, entries: u32) -> usize
     requires { at ≤ length lists.now }
     ensures { (at ≤ result) × (result ≤ length lists.now) }
 {
-    let size = ENTRY_WORDS * wide(entries);
+    let size = ENTRY_WORDS * entries as usize;
     if lists.len() - at < size {
         return lists.len();
     }

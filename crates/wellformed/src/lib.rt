@@ -12,7 +12,7 @@ ghost use Rattle.rules.specs.Rules.{column_fault, message_fault, node_fault, wor
 ghost use Rattle.problem.specs.Parts.{Counted};
 ghost use Rattle.wellformed.specs.Parts.{header_at, HasColumn, Reached, HasMessage};
 
-use basics::{has_bit, is_outside, long, wide};
+use basics::{has_bit, is_outside};
 use problem::{COLUMNS_AT, CYCLE_AT, LIMIT_AT, MESSAGES_AT, REF_ID_AT, REF_LEN_AT, ROWS_AT};
 use rules::{Fault, Refusal, words};
 
@@ -76,7 +76,7 @@ pub fn header_fault(words: &[u32]) -> Fault
 fn end_of(start: u32, width: u32) -> u64
     ensures { result ≡ start + width }
 {
-    long(start) + long(width)
+    u64::from(start) + u64::from(width)
 }
 
 // When column c starts.
@@ -122,9 +122,9 @@ fn column_wrong(words: &[u32], c: usize, from: u64) -> bool
         | (65535 < width)
         | (width == 0)
         | (0 < kind_in(words, c))
-        | (long(start) < from)
-        | ((c + 1 == wide(words[words::COLUMNS]))
-            & (long(words[words::CYCLE]) < end_of(start, width)))
+        | (u64::from(start) < from)
+        | ((c + 1 == words[words::COLUMNS] as usize)
+            & (u64::from(words[words::CYCLE]) < end_of(start, width)))
 }
 
 // The first column that breaks its rule.

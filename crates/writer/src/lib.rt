@@ -13,7 +13,7 @@ ghost use Rattle.problem.specs.Wrong.{count_fault};
 ghost use Rattle.problem.specs.Parts.{Counted};
 ghost use Rattle.writer.specs.Promise.{Taken, Laying, Writing};
 
-use basics::{FILL, wide};
+use basics::FILL;
 use problem::Layout;
 use problem::layout::{bytes_for, column_size, identifier_size, message_size, version_of};
 use problem::recast::{column_words, recast, said_for};
@@ -240,8 +240,8 @@ fn count_fault(words: &[u32]) -> Fault
     let Fault::Clear = of_header else {
         return of_header;
     };
-    let k = wide(words[words::COLUMNS]);
-    let m = wide(words[words::MESSAGES]);
+    let k = words[words::COLUMNS] as usize;
+    let m = words[words::MESSAGES] as usize;
     if words.len() != said_for(column_words(layout_by(words, k, m)), k, m) {
         return Fault::Bad(Refusal::Length);
     }
@@ -257,8 +257,8 @@ pub fn problem_in(words: &[u32], problem: &mut [u32]) -> Read
     if let Fault::Bad(q) = of_count {
         return Read::Refused(q);
     }
-    let k = wide(words[words::COLUMNS]);
-    let m = wide(words[words::MESSAGES]);
+    let k = words[words::COLUMNS] as usize;
+    let m = words[words::MESSAGES] as usize;
     let said = column_words(layout_by(words, k, m));
     recast(words, said, words::COLUMN_WORDS, k, m, problem);
     Read::Problem(words::message_at(k, m))
@@ -273,8 +273,8 @@ pub fn write(words: &[u32], file: &mut [u8]) -> Written
     let Read::Problem(n) = got else {
         return Written::Refused(reader::answer::refusal_of(got));
     };
-    let k = wide(words[words::COLUMNS]);
-    let m = wide(words[words::MESSAGES]);
+    let k = words[words::COLUMNS] as usize;
+    let m = words[words::MESSAGES] as usize;
     let problem = &buffer[..n];
     let fault = words_fault(problem, k, m);
     if let Fault::Bad(q) = fault {
