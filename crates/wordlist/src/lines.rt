@@ -2,7 +2,7 @@
 ghost use Rattle.std.specs.Prelude.{◌+◌, ◌<◌, ◌≤◌, length};
 ghost use Rattle.wordlist.specs.Text.{Ended, Within};
 
-use super::{NO_NUMBER, front, is_same, next_word, number_in, word_end};
+use super::{front, next_word, number_in, word_end};
 
 // ---- where a place is
 
@@ -10,29 +10,15 @@ use super::{NO_NUMBER, front, is_same, next_word, number_in, word_end};
 pub fn line_of(text: &[u8]) -> usize
     ensures { (1 ≤ result) × (result ≤ length text.now + 1) }
 {
-    let mut line: usize = 1;
-    let mut i: usize = 0;
-    while i < text.len() {
-        if text[i] == b'\n' {
-            line += 1;
-        }
-        i += 1;
-    }
-    line
+    1 + text.iter().filter(|b| **b == b'\n').count()
 }
 
 // The column of that line that a text ends before, from 1.
 pub fn column_of(text: &[u8]) -> usize {
-    let mut column: usize = 1;
-    let mut i = front(text);
-    while i < text.len() {
-        column += 1;
-        if text[i] == b'\n' {
-            column = 1;
-        }
-        i += 1;
+    match text.iter().rposition(|b| *b == b'\n') {
+        Some(end) => text.len() - end,
+        None => text.len() - front(text) + 1,
     }
-    column
 }
 
 // Where word k of a text begins, from 0, or the text's end if it has fewer.
@@ -40,10 +26,11 @@ fn word_at(text: &[u8], k: usize) -> usize
     ensures { Within text.now result }
 {
     let mut at = next_word(text, front(text));
-    let mut i: usize = 0;
-    while i < k && at < text.len() {
+    for _ in 0..k {
+        if at == text.len() {
+            return at;
+        }
         at = next_word(text, word_end(text, at));
-        i += 1;
     }
     at
 }
@@ -58,14 +45,10 @@ pub fn line_end(text: &[u8], from: usize) -> usize
     requires { from < length text.now }
     ensures { Ended text.now from result }
 {
-    let mut i = from;
-    while i < text.len() {
-        if text[i] == b'\n' {
-            return i + 1;
-        }
-        i += 1;
+    match text[from..].iter().position(|b| *b == b'\n') {
+        Some(n) => from + n + 1,
+        None => text.len(),
     }
-    i
 }
 
 // ---- records, one a line
@@ -80,26 +63,17 @@ pub struct Shape {
     pub other: usize,
 }
 
-// A line, how many words it has, and how many it should have; line 0 is none.
-#[derive(Drop)]
+// A line, how many words it has, and how many it should have.
+#[derive(Clone, Copy)]
 pub struct Line {
     pub line: usize,
     pub count: usize,
     pub due: usize,
 }
 
-// No line.
-fn no_line() -> Line {
-    Line {
-        line: 0,
-        count: 0,
-        due: 0,
-    }
-}
-
 // How many words a text has.
 fn count_of(text: &[u8]) -> usize {
-    let mut count: usize = 0;
+    let mut count = 0;
     let mut at = next_word(text, 0);
     while at < text.len() {
         at = next_word(text, word_end(text, at));
@@ -111,7 +85,7 @@ fn count_of(text: &[u8]) -> usize {
 // How many words a line has from word k of its text on.
 pub fn words_from(text: &[u8], k: usize) -> usize {
     let at = word_at(text, k);
-    if text.len() <= at {
+    if at == text.len() {
         return 0;
     }
     count_of(&text[at..line_end(text, at)])
@@ -120,37 +94,38 @@ pub fn words_from(text: &[u8], k: usize) -> usize {
 // How many words record r should have.
 fn due(shape: Shape, r: usize) -> usize {
     if r == 0 {
-        return shape.first;
+        shape.first
+    } else if r <= shape.few {
+        shape.short
+    } else {
+        shape.other
     }
-    if r <= shape.few {
-        return shape.short;
-    }
-    shape.other
 }
 
 // The first line that has another count of words than its record, where there is one record a line; else none.
-pub fn wrong_line(text: &[u8], shape: Shape) -> Line {
-    let mut wrong = no_line();
-    let mut records: usize = 0;
-    let mut line: usize = 0;
-    let mut at = front(text);
-    while at < text.len() {
-        let end = line_end(text, at);
-        let count = count_of(&text[at..end]);
-        line += 1;
+pub fn wrong_line(text: &[u8], shape: Shape) -> Option<Line> {
+    let mut wrong = None;
+    let mut records = 0;
+    let lines = text[front(text)..].split_inclusive(|b| *b == b'\n');
+    for (i, line) in lines.enumerate() {
+        let count = count_of(line);
         if 0 < count {
             let due = due(shape, records);
-            if (wrong.line == 0) & (count != due) {
-                wrong = Line { line, count, due };
+            if wrong.is_none() && count != due {
+                wrong = Some(Line {
+                    line: i + 1,
+                    count,
+                    due,
+                });
             }
             records += 1;
         }
-        at = end;
     }
     if records == shape.records {
-        return wrong;
+        wrong
+    } else {
+        None
     }
-    no_line()
 }
 
 // ---- the problem of a plan
@@ -158,34 +133,23 @@ pub fn wrong_line(text: &[u8], shape: Shape) -> Line {
 // How many hexadecimal digits the mark of a problem has.
 const MARK_DIGITS: usize = 8;
 
-// What stands before it.
-const BEFORE: usize = 10;
-
-// The mark on a line that begins with `# problem `, or NO_NUMBER.
-fn mark_on(line: &[u8]) -> u64 {
-    if line.len() < BEFORE + MARK_DIGITS {
-        return NO_NUMBER;
+// The mark on a line that begins with `# problem `, if it does.
+fn mark_on(line: &[u8]) -> Option<u32> {
+    let behind = line.strip_prefix(b"# problem ")?;
+    if behind.is_empty() {
+        return None;
     }
-    if !is_same(&line[..BEFORE], b"# problem ") {
-        return NO_NUMBER;
+    let (mark, _) = behind.split_at(word_end(behind, 0));
+    if mark.len() == MARK_DIGITS {
+        number_in(16, mark)
+    } else {
+        None
     }
-    let end = word_end(line, BEFORE);
-    if end != BEFORE + MARK_DIGITS {
-        return NO_NUMBER;
-    }
-    number_in(16, &line[BEFORE..end])
 }
 
-// The mark of the problem that a plan says it was made for, or NO_NUMBER if it does not say so.
-pub fn mark_of(text: &[u8]) -> u64 {
-    let mut at = front(text);
-    while at < text.len() {
-        let end = line_end(text, at);
-        let mark = mark_on(&text[at..end]);
-        if mark < NO_NUMBER {
-            return mark;
-        }
-        at = end;
-    }
-    NO_NUMBER
+// The mark of the problem that a plan says it was made for, if it says so.
+pub fn mark_of(text: &[u8]) -> Option<u32> {
+    text[front(text)..]
+        .split_inclusive(|b| *b == b'\n')
+        .find_map(mark_on)
 }
