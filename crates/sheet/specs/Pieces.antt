@@ -1,6 +1,6 @@
 -- A piece of a text: from one place up to another.
-use Rattle.std.specs.Prelude.{ℕ, ◌<◌, ◌≤◌, ◌≡◌, ⊤, List, length}
-use Rattle.sheet.specs.declared.Piece.{Piece}
+use Rattle.std.specs.Prelude.{ℕ, ◌≤◌, ◌≡◌, ⊤, List, length}
+use Rattle.wordlist.specs.declared.Piece.{Piece}
 use Rattle.sheet.specs.declared.reading.Misnamed.{Misnamed}
 use Rattle.sheet.specs.declared.reading.Misnamed.TheVariants.{Unknown, Again}
 use Rattle.sheet.specs.declared.slips.Slip.{Slip}
@@ -15,12 +15,6 @@ pub record Inside (s : List ℕ) (from to : ℕ) : Type 0 where
 -- the piece lies in the text s
 abbrev pub PieceIn : List ℕ → Piece → Type 0
 PieceIn s p = Inside s p.from p.to
-
--- the piece is a word of the text s that begins at a place or behind it
-pub record WordFrom (s : List ℕ) (at : ℕ) (p : Piece) : Type 0 where
-  pub behind : at ≤ p.from
-  pub least : p.from < p.to
-  pub most : p.to ≤ length s
 
 -- r words of the buffer e are filled, which is as long as d was
 pub record Left (d e : List ℕ) (r : ℕ) : Type 0 where

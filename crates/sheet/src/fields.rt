@@ -2,7 +2,8 @@
 ghost use Rattle.std.specs.Prelude.{IfSome};
 ghost use Rattle.sheet.specs.Pieces.{PieceIn};
 
-use super::{Kind, Piece, word_from};
+use super::Kind;
+use wordlist::{Piece, word_from};
 
 // The fields. Those of the matrix, of a column and of a message stand as a problem has their words.
 #[derive(Clone, Copy, PartialEq, Eq)]

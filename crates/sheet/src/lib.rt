@@ -6,11 +6,11 @@ pub mod reading;
 pub mod slips;
 
 ghost use Rattle.std.specs.Prelude.{◌≤◌, IfSome, length};
-ghost use Rattle.sheet.specs.Pieces.{PieceIn, WordFrom};
+ghost use Rattle.sheet.specs.Pieces.{PieceIn};
 
 use fields::Field;
 use wordlist::lines::line_end;
-use wordlist::{front, next_word, word_end};
+use wordlist::{Piece, front, word_from};
 
 // What a line of a sheet is about.
 #[derive(Clone, Copy, PartialEq, Eq)]
@@ -21,31 +21,9 @@ pub enum Kind {
     Message,
 }
 
-// A piece of a text: where it begins, and where it ends.
-#[derive(Clone, Copy)]
-pub struct Piece {
-    pub from: usize,
-    pub to: usize,
-}
-
 // Whether a byte is a letter; one beyond ASCII is part of one.
 pub fn is_letter(b: u8) -> bool {
     b.is_ascii_alphabetic() || 128 <= b
-}
-
-// The first word of a text from a place on, if there is one.
-fn word_from(text: &[u8], from: usize) -> Option<Piece>
-    requires { from ≤ length text.now }
-    ensures { IfSome result (WordFrom text.now from) }
-{
-    let at = next_word(text, from);
-    if at == text.len() {
-        return None;
-    }
-    Some(Piece {
-        from: at,
-        to: word_end(text, at),
-    })
 }
 
 // Whether a text is a sheet: its first word begins with a letter, where a word list has a digit.

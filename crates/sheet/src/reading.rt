@@ -3,9 +3,9 @@ ghost use Rattle.std.specs.Prelude.{◌≤◌, IfErr, length};
 ghost use Rattle.sheet.specs.Pieces.{MisnamedIn, Left};
 
 use super::fields::{self, Field, words_of};
-use super::{Kind, Piece, count_of, ends_line, is_record, record, record_named};
+use super::{Kind, count_of, ends_line, is_record, record, record_named};
 use basics::{has_bit, with_bit};
-use wordlist::front;
+use wordlist::{Piece, front};
 
 // ---- nodes by their names
 

@@ -4,8 +4,8 @@ ghost use Rattle.sheet.specs.Pieces.{PieceIn, SlipIn};
 
 use super::fields::{self, Field, field_named, fields_of};
 use super::reading::{self, Misnamed};
-use super::{Kind, Piece, count_of, ends_line, kind_of, node, record_named, word_from};
-use wordlist::front;
+use super::{Kind, count_of, ends_line, kind_of, node, record_named};
+use wordlist::{Piece, front, word_from};
 
 // The most bytes of a name, and the most columns and messages of a problem.
 pub const MOST_NAME: usize = 24;

@@ -1,5 +1,7 @@
 -- What a text of digits says, and what the functions that read a word list hand back.
-use Rattle.std.specs.Prelude.{ℕ, zero, suc, ◌+◌, ◌*◌, ◌-◌, ◌<◌, ◌≤◌, ◌≡◌, cond, ◌⊎◌, Option, IfSome, List, ltb, length, take, drop, get_or}
+use Rattle.std.specs.Prelude.{ℕ, zero, suc, ◌+◌, ◌*◌, ◌-◌, ◌<◌, ◌≤◌, ◌≡◌, cond, ◌⊎◌, Option, IfSome, Result, MatchResult, List, ltb, length, take, drop, get_or}
+use Rattle.wordlist.specs.declared.Piece.{Piece}
+use Rattle.wordlist.specs.declared.Stop.{Stop}
 
 -- ---- numbers
 -- the value of a byte as a digit: 0 to 9, A to F, a to f; 16 for any other
@@ -50,10 +52,11 @@ pub record Ended (s : List ℕ) (from r : ℕ) : Type 0 where
   pub least : from < r
   pub most : r ≤ length s
 
--- r is a place of s, so that the text before it can be lent (the equation follows from the bound)
-pub record Within (s : List ℕ) (r : ℕ) : Type 0 where
-  pub most : r ≤ length s
-  pub passed : r ≡ length (take r s)
+-- the piece is a word of the text s that begins at a place or behind it, and has a byte at least
+pub record WordFrom (s : List ℕ) (at : ℕ) (p : Piece) : Type 0 where
+  pub behind : at ≤ p.from
+  pub least : p.from < p.to
+  pub most : p.to ≤ length s
 
 -- n words of the buffer e were taken from the text s, up to the place `at` (each equation follows from the bound before it)
 pub record Taken (s e : List ℕ) (n at : ℕ) : Type 0 where
@@ -61,3 +64,7 @@ pub record Taken (s e : List ℕ) (n at : ℕ) : Type 0 where
   pub front : n ≡ length (take n e)
   pub stopped : at ≤ length s
   pub passed : at ≡ length (take at s)
+
+-- all words of the text s were taken into the buffer e, or those before the word at which the reading stopped
+abbrev pub Parses : List ℕ → List ℕ → Result ℕ Stop → Type 0
+Parses s e r = MatchResult r (λ n. Taken s e n (length s)) (λ stop. Taken s e stop.count stop.at × (stop.at < length s))

@@ -5,12 +5,18 @@ pub mod hints;
 pub mod lines;
 
 ghost use Rattle.std.specs.Prelude.{◌<◌, ◌≤◌, ◌≡◌, IfSome, drop, length};
-ghost use Rattle.wordlist.specs.Text.{Prefixed, InBase, Numeral, Next, Ended, Taken};
+ghost use Rattle.wordlist.specs.Text.{Prefixed, InBase, Numeral, Next, Ended, WordFrom, Parses};
 
-// How many words were taken from a text, and where the reading ended: at the text's end, at a word that is no number, or at one too many.
-// No Result: both are of use whatever ended the reading.
+// A piece of a text: where it begins, and where it ends.
 #[derive(Clone, Copy)]
-pub struct Parsed {
+pub struct Piece {
+    pub from: usize,
+    pub to: usize,
+}
+
+// Where the reading of a text stopped: at a word that is no number, or at one too many; and how many were taken before it.
+#[derive(Clone, Copy)]
+pub struct Stop {
     pub count: usize,
     pub at: usize,
 }
@@ -69,7 +75,7 @@ pub fn front(text: &[u8]) -> usize
 }
 
 // Where the next word begins, at a place or behind it: past white space and comments. The text's end if there is none.
-pub fn next_word(text: &[u8], from: usize) -> usize
+fn next_word(text: &[u8], from: usize) -> usize
     requires { from ≤ length text.now }
     ensures { Next text.now from result }
 {
@@ -97,6 +103,19 @@ pub fn word_end(text: &[u8], from: usize) -> usize
     text.len()
 }
 
+// The first word of a text from a place on, if there is one.
+pub fn word_from(text: &[u8], from: usize) -> Option<Piece>
+    requires { from ≤ length text.now }
+    ensures { IfSome result (WordFrom text.now from) }
+{
+    let at = next_word(text, from);
+    if at == text.len() {
+        return None;
+    }
+    let to = word_end(text, at);
+    Some(Piece { from: at, to })
+}
+
 // The number that a word writes; a dash stands for what is given for it.
 fn value_of(word: &[u8], dash: Option<u32>) -> Option<u32> {
     match word {
@@ -105,32 +124,34 @@ fn value_of(word: &[u8], dash: Option<u32>) -> Option<u32> {
     }
 }
 
-// Puts the words of a text into the front of a buffer, all of them numbers.
-pub fn parse(text: &[u8], words: &mut [u32]) -> Parsed
-    ensures { Taken text.now words.new result.count result.at }
+// Puts the words of a text into the front of a buffer, all of them numbers: how many they are.
+pub fn parse(text: &[u8], words: &mut [u32]) -> Result<usize, Stop>
+    ensures { Parses text.now words.new result }
 {
     parse_with(text, words, None)
 }
 
-// Puts the words of a text into the front of a buffer, where a dash may stand for a number.
-pub fn parse_with(text: &[u8], words: &mut [u32], dash: Option<u32>) -> Parsed
-    ensures { Taken text.now words.new result.count result.at }
+// Puts the words of a text into the front of a buffer, where a dash may stand for a number: how many they are.
+pub fn parse_with(text: &[u8], words: &mut [u32], dash: Option<u32>) -> Result<usize, Stop>
+    ensures { Parses text.now words.new result }
 {
     let mut count = 0;
-    let mut at = next_word(text, front(text));
-    while at < text.len() && count < words.len() {
-        let end = word_end(text, at);
-        let Some(value) = value_of(&text[at..end], dash) else {
-            break;
-        };
-        words[count] = value;
+    let mut at = front(text);
+    while let Some(word) = word_from(text, at) {
+        match value_of(&text[word.from..word.to], dash) {
+            Some(value) if count < words.len() => words[count] = value,
+            _ => return Err(Stop {
+                count,
+                at: word.from,
+            }),
+        }
         count += 1;
-        at = next_word(text, end);
+        at = word.to;
     }
-    Parsed { count, at }
+    Ok(count)
 }
 
-// Whether two texts are the same.
+// Whether two texts are the same. To go once no crate asks it: `s == t` and patterns say it.
 pub fn is_same(s: &[u8], t: &[u8]) -> bool {
     s == t
 }

@@ -1,8 +1,8 @@
 // Lines of a word list: where a word stands, which line has a wrong count of words, and which problem a plan was made for.
-ghost use Rattle.std.specs.Prelude.{◌+◌, ◌<◌, ◌≤◌, length};
-ghost use Rattle.wordlist.specs.Text.{Ended, Within};
+ghost use Rattle.std.specs.Prelude.{◌+◌, ◌<◌, ◌≤◌, IfSome, length};
+ghost use Rattle.wordlist.specs.Text.{Ended, WordFrom};
 
-use super::{front, next_word, number_in, word_end};
+use super::{Piece, front, number_in, word_end, word_from};
 
 // ---- where a place is
 
@@ -21,23 +21,23 @@ pub fn column_of(text: &[u8]) -> usize {
     }
 }
 
-// Where word k of a text begins, from 0, or the text's end if it has fewer.
-fn word_at(text: &[u8], k: usize) -> usize
-    ensures { Within text.now result }
+// Where word k of a text stands, from 0, if it has so many.
+fn word(text: &[u8], k: usize) -> Option<Piece>
+    ensures { IfSome result (WordFrom text.now 0) }
 {
-    let mut at = next_word(text, front(text));
+    let mut at = front(text);
     for _ in 0..k {
-        if at == text.len() {
-            return at;
-        }
-        at = next_word(text, word_end(text, at));
+        at = word_from(text, at)?.to;
     }
-    at
+    word_from(text, at)
 }
 
-// The line that has word k of a text.
+// The line that has word k of a text, or its last line if it has fewer.
 pub fn line_at(text: &[u8], k: usize) -> usize {
-    line_of(&text[..word_at(text, k)])
+    match word(text, k) {
+        Some(word) => line_of(&text[..word.from]),
+        None => line_of(text),
+    }
 }
 
 // Where the line ends that has a place: behind its last byte.
@@ -74,21 +74,20 @@ pub struct Line {
 // How many words a text has.
 fn count_of(text: &[u8]) -> usize {
     let mut count = 0;
-    let mut at = next_word(text, 0);
-    while at < text.len() {
-        at = next_word(text, word_end(text, at));
+    let mut at = 0;
+    while let Some(word) = word_from(text, at) {
         count += 1;
+        at = word.to;
     }
     count
 }
 
 // How many words a line has from word k of its text on.
 pub fn words_from(text: &[u8], k: usize) -> usize {
-    let at = word_at(text, k);
-    if at == text.len() {
-        return 0;
+    match word(text, k) {
+        Some(word) => count_of(&text[word.from..line_end(text, word.from)]),
+        None => 0,
     }
-    count_of(&text[at..line_end(text, at)])
 }
 
 // How many words record r should have.

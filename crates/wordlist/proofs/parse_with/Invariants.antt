@@ -2,8 +2,8 @@
 use Rattle.std.proofs.Common.{length, ◌-◌, ◌≤◌}
 use Rattle.wordlist.proofs.parse_with.Given as goal
 
-abbrev pub invariant-loop-at : goal.invariant-loop-at
-invariant-loop-at l = (l.count ≤ length l.words) × (l.at ≤ length l.text)
+abbrev pub invariant-loop-word : goal.invariant-loop-word
+invariant-loop-word l = (l.count ≤ length l.words) × (l.at ≤ length l.text)
 
-abbrev pub decreases-loop-at : goal.decreases-loop-at
-decreases-loop-at l = length l.text - l.at
+abbrev pub decreases-loop-word : goal.decreases-loop-word
+decreases-loop-word l = length l.text - l.at
