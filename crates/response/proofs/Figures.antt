@@ -19,9 +19,6 @@ member {e} {j} s l = record { sound = s; below = l; rules = s.rules j l }
 pub figure-taken : {t : Bool} {x lo hi r : ℕ} → t ≡ true → Figure x lo hi r → Figure (only t x) 0 hi r
 figure-taken h f = record { is = rw h f.is; least = omega arith; most = f.most }
 
-pub figure-one : {t : Bool} → t ≡ true → Figure (only t 1) 0 1 1
-figure-one h = figure-taken {lo = 1} h (record { is = refl; least = omega arith; most = omega arith })
-
 pub figure-left : {t : Bool} (x hi : ℕ) → t ≡ false → Figure (only t x) 0 hi 0
 figure-left x hi h = record { is = rw h; least = omega arith; most = omega arith }
 

@@ -13,7 +13,7 @@ use borrow.Author.Count.{below_none, below_more}
 use borrow.Author.Tests.{eq-eqb, ne_eqb, eqb-true, not-false}
 use Rattle.basics.proofs.Fixed.{Under, under-start, under_next, under-least, under-below, least-exists, least-is-under}
 use Rattle.basics.proofs.Steps.{stays, rises}
-use Rattle.basics.proofs.Tests.{some_at, some-on, some-off, not-both}
+use Rattle.basics.proofs.Tests.{some_at, some-on, some-off}
 use Rattle.rules.specs.declared.Refusal.{Refusal}
 use Rattle.rules.specs.declared.Refusal.TheVariants.{Endless}
 use Rattle.rules.specs.Refusal.{◌⊕◌, first_fault, Fault}
@@ -22,7 +22,7 @@ use Rattle.rules.proofs.Faults.{first-at, bad-not-clear, clear_both}
 use Rattle.response.specs.Events.{count, period, jitter, events_fault}
 use Rattle.response.specs.Times.{takes, blocking, arrivals, demand, load, Busy, longest_busy, endless}
 use Rattle.response.specs.Promise.{endless_fault, call_fault}
-use Rattle.response.specs.Parts.{Member, Span, Spans, BusyOr0, busy, none, Noted, shortest_frame}
+use Rattle.response.specs.Parts.{Member, Span, Spans, Noted, shortest_frame}
 use Rattle.response.proofs.Faults.{endless-bad, endless-clear, ended-clear, call-rest}
 use Rattle.response.proofs.Queue.{ceiling-some, load_step, load-rises}
 use Rattle.response.proofs.Turns.{left, left-falls, left-first}
@@ -89,14 +89,14 @@ module _ {e : List ℕ} {i blocked frame : ℕ} where
     pub spanning-falls : t ≤ longest_busy → ¬ (blocked + (frame * count + more) ≡ t) → left (blocked + (frame * count + more)) < left t
     spanning-falls l h = rw next-is (falls s.member l (λ q. h (next-is ∙ q)) s.begun)
 
-    pub spanning-found : t ≤ longest_busy → blocked + (frame * count + more) ≡ t → BusyOr0 e i t
-    spanning-found l h = busy (record { busy = under-least s.under (sym next-is ∙ h); most = l })
+    pub spanning-found : t ≤ longest_busy → blocked + (frame * count + more) ≡ t → Span e i t
+    spanning-found l h = record { busy = under-least s.under (sym next-is ∙ h); most = l }
 
-  pub spanning-none : {t : ℕ} → Spanning e i blocked frame t → longest_busy < t → BusyOr0 e i 0
+  pub spanning-none : {t : ℕ} → Spanning e i blocked frame t → longest_busy < t → endless e i ≡ true
   unfolding endless
   spanning-none {t} s h =
-      none (rw (some-off longest_busy (λ v. eqb (v + 1) (load e i (v + 1)))
-      (λ k l. ne_eqb (k + 1) (load e i (k + 1)) (λ q. omega (arith, under-below s.under (k + 1) (omega arith) q))))) refl
+      rw (some-off longest_busy (λ v. eqb (v + 1) (load e i (v + 1)))
+      (λ k l. ne_eqb (k + 1) (load e i (k + 1)) (λ q. omega (arith, under-below s.under (k + 1) (omega arith) q))))
 
 -- ---- what the test says
 module _ {e : List ℕ} {i : ℕ} where
@@ -115,18 +115,6 @@ module _ {e : List ℕ} {i : ℕ} where
       let x = least-exists {b = 1} (load-rises e i) (omega (arith, loads m 1 (omega arith))) (k.0 + 1) (omega arith) (omega arith) in
       let b : x.0 ≤ k.0 + 1 = x.2 in
       (x.0, record { busy = x.1; most = omega arith })
-
-  pub found-span : {r t : ℕ} → endless e i ≡ false → BusyOr0 e i r → t ≡ r → Span e i t
-  found-span h (busy s) q = rw q s
-  found-span h (none n z) q = not-both n h
-
-  pub found_some : {r : ℕ} → ¬ (r ≡ 0) → BusyOr0 e i r → Span e i r
-  found_some h (busy s) = s
-  found_some h (none q z) = absurd (h z)
-
-  pub found_none : {r : ℕ} → r ≡ 0 → BusyOr0 e i r → endless e i ≡ true
-  found_none h (busy s) = absurd (let f = s.busy.from in omega arith)
-  found_none h (none q z) = q
 
 -- ---- the busy periods as they are noted, event by event
 pub spans-none : (e s : List ℕ) → Spans e s 0

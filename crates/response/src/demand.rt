@@ -61,9 +61,10 @@ fn blocked_by(events: &[u32], i: usize, j: usize) -> usize
     ensures { Figure (blocked_by events.now i j) 0 longest_frame result }
 {
     if wins_over(events, i, j) {
-        return frame_of(events, j);
+        frame_of(events, j)
+    } else {
+        0
     }
-    0
 }
 
 // The longest frame of lower priority than event i's.
@@ -71,12 +72,9 @@ pub(crate) fn blocking_of(events: &[u32], i: usize) -> usize
     requires { Member events.now i }
     ensures { Figure (blocking events.now i) 0 longest_frame result }
 {
-    let n = count_of(events);
     let mut most: usize = 0;
-    let mut j: usize = 0;
-    while j < n {
+    for j in 0..count_of(events) {
         most = most.max(blocked_by(events, i, j));
-        j += 1;
     }
     most
 }
@@ -103,9 +101,10 @@ fn interference_of(events: &[u32], i: usize, j: usize, span: usize) -> usize
     ensures { Figure (interference events.now i span j) 0 most_interference result }
 {
     if wins_over(events, j, i) {
-        return frame_of(events, j) * arrivals_of(events, j, span);
+        frame_of(events, j) * arrivals_of(events, j, span)
+    } else {
+        0
     }
-    0
 }
 
 // How long all frames of higher priority than event i's take that can be queued within a span.
@@ -113,12 +112,9 @@ pub(crate) fn demand_of(events: &[u32], i: usize, span: usize) -> usize
     requires { Member events.now i × (span ≤ longest_span) }
     ensures { Figure (demand events.now i span) 0 most_demand result }
 {
-    let n = count_of(events);
     let mut total: usize = 0;
-    let mut j: usize = 0;
-    while j < n {
+    for j in 0..count_of(events) {
         total += interference_of(events, i, j, span);
-        j += 1;
     }
     total
 }
