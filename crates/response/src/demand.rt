@@ -84,7 +84,7 @@ fn ceiling_of(a: usize, b: usize) -> usize
     requires { (a ≤ most_arrivals) × (1 ≤ b) × (b ≤ longest_period) }
     ensures { Figure (ceiling a b) 0 most_arrivals result }
 {
-    ((a + (b - 1)) as u32 / b as u32) as usize
+    (a as u32).div_ceil(b as u32) as usize
 }
 
 // How many frames of event j can be queued within a span.
