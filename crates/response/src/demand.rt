@@ -1,4 +1,5 @@
 // The figures of events that keep the rules: an event's own, what blocks it, and what comes before it within a span. A demand can be above 32 bits, so every figure is a usize.
+// One function reads each word of an event, since each has its own bounds in its contract.
 ghost use Rattle.std.specs.Prelude.{◌≡◌, ◌<◌, ◌≤◌, max};
 ghost use Rattle.response.specs.Events.{longest_period, identifier, period, jitter, deadline};
 ghost use Rattle.response.specs.Times.{wins, takes, blocked_by, blocking, ceiling, arrivals, interference, demand};
@@ -79,7 +80,7 @@ pub(crate) fn blocking_of(events: &[u32], i: usize) -> usize
     most
 }
 
-// a / b, rounded up; divided as words, which is quicker.
+// a / b, rounded up; divided as words, since that division is quicker.
 fn ceiling_of(a: usize, b: usize) -> usize
     requires { (a ≤ most_arrivals) × (1 ≤ b) × (b ≤ longest_period) }
     ensures { Figure (ceiling a b) 0 most_arrivals result }

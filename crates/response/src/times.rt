@@ -12,7 +12,7 @@ use super::demand::{
 use super::events::{LONGEST_PERIOD, count_of};
 
 // How long an event's busy period is, the longest response of the instances in it, and the first instance that has it.
-#[derive(Drop)]
+#[derive(Clone, Copy)]
 pub struct Worst {
     pub span: usize,
     pub instance: usize,
@@ -24,13 +24,14 @@ fn worse(worst: Worst, q: usize, response: usize) -> Worst
     ensures { Worse worst q response result }
 {
     if worst.response < response {
-        return Worst {
-            span: worst.span,
+        Worst {
             instance: q,
             response,
-        };
+            ..worst
+        }
+    } else {
+        worst
     }
-    worst
 }
 
 // The worst of event i in its busy period, or the first instance whose response is above the limit. At each turn w climbs, or it is an instance's queuing
@@ -79,7 +80,7 @@ pub fn worst_of(events: &[u32], i: usize) -> Worst
     worst_within(events, i, span, LONGEST_BUSY + LONGEST_PERIOD as usize)
 }
 
-// Event i's response time, from its busy period, or 0 if it misses its deadline.
+// The word that is written for event i: its response time, from its busy period, or 0, document 01's word for a missed deadline.
 fn time_of(events: &[u32], i: usize, span: usize) -> u32
     requires { Member events.now i × Span events.now i span }
     ensures { Written events.now i result }
