@@ -7,6 +7,9 @@ use mathlib.Core.List.{List}
 use native.Mathlib.Nat.{mul-le-mul}
 use native.Mathlib.Omega.{arith}
 use lib.Dec.{eqb}
+use lib.ListN.{length, get_or, set}
+use lib.Seq.{get_or-set_same, get_or-set_other}
+use borrow.Author.Count.{below_more}
 use borrow.Author.Tests.{eq-eqb, ne_eqb, eqb-true, not-false}
 use Rattle.basics.proofs.Fixed.{Under, under-start, under_next, under-least, under-below, least-exists, least-is-under}
 use Rattle.basics.proofs.Steps.{stays, rises}
@@ -114,6 +117,14 @@ module _ {e : List ℕ} {i : ℕ} where
       (x.0, record { busy = x.1; most = omega arith })
 
 -- ---- the busy periods as they are noted, event by event
+pub spans-more : {e s : List ℕ} {n t : ℕ} → Spans e s n → n < length s → Span e n t → Spans e (set s n t) (n + 1)
+spans-more {e} {s} {n} {t} f room here = record {
+  each =
+      below_more _ n
+      (λ i l. subst (λ (v : ℕ). Span e i v) (sym (get_or-set_other s n i t 0 (λ q. omega arith))) (f.each i l))
+      (subst (λ (v : ℕ). Span e n v) (sym (get_or-set_same s n t 0 room)) here);
+}
+
 pub noted-bad : {e s : List ℕ} {x : Fault} {q : Refusal} → Err q ≡ x → Noted e s x (Err q)
 noted-bad h = record { fault-is = h; spans = λ z. bad-not-clear z refl }
 
