@@ -10,31 +10,23 @@ use Rattle.rules.proofs.Faults.{clear_both}
 use Rattle.problem.specs.File.{words_of}
 use Rattle.problem.specs.Wrong.{file_fault}
 use Rattle.problem.proofs.Wrong.{file-formed}
-use Rattle.reader.specs.Promise.{Opened, Decoded}
-use Rattle.reader.proofs.Decoding.{answered-bad, answered-words}
+use Rattle.reader.specs.Promise.{Opened}
 use Rattle.proposal.specs.Accepted.{check_fault, Accepted}
-use Rattle.proposal.specs.Accept.{Admitted, Tested}
+use Rattle.proposal.specs.Accept.{Admitted}
 use Rattle.std.specs.Prelude.{Err, Ok}
 use Rattle.rules.specs.Refusal.{Fault}
-use Rattle.rules.specs.Paper.{Answer}
 
--- the file is refused
-pub tested-file : (w : List ℕ) {f e : List ℕ} {r : Answer} {q : Refusal} → Decoded f e r → r ≡ Err q → Tested f w e r
-tested-file w {q = q} d h = answered-bad q h (rw (d.refuses q h))
+-- ---- the file is refused
+pub refused-file : (f w : List ℕ) {q : Refusal} → file_fault f ≡ Err q → check_fault f w ≡ Err q
+refused-file f w h = rw h
 
 -- it is read, and y is what is wrong with the proposal
-module _ (w : List ℕ) {f e : List ℕ} {r : Answer} {n : ℕ} {y : Fault} (d : Decoded f e r) (is : r ≡ Ok n) (ey : y ≡ proposal_fault (take n e) w) where
-  opened : Opened f e n
-  opened = d.opens n is
-
-  found : check_fault f w ≡ y
+module _ (w : List ℕ) {f e : List ℕ} {n : ℕ} {y : Fault} (opened : Opened f e n) (ey : y ≡ proposal_fault (take n e) w) where
+  pub found : check_fault f w ≡ y
   found = rw (opened.clear, ← opened.front) (sym ey)
 
-  pub tested-proposal : {q : Refusal} {s : Answer} → s ≡ Err q → y ≡ Err q → Tested f w e s
-  tested-proposal {q} s h = answered-bad q s (found ∙ h)
-
-  pub tested-clear : {s : Answer} → s ≡ Ok n → y ≡ Ok tt → Tested f w e s
-  tested-clear s-is h = answered-words n s-is record {
+  pub admitted : y ≡ Ok tt → Admitted f w e n
+  admitted h = record {
     clear = found ∙ h;
     within = opened.within;
     front = opened.front;
