@@ -6,32 +6,38 @@ use lib.ListN.{length, take}
 use lib.Seq.{length-take-le}
 use Rattle.rules.specs.declared.Refusal.{Refusal}
 use Rattle.rules.specs.Tests.{proposal_fault}
-use Rattle.rules.proofs.Faults.{clear_both}
+use Rattle.rules.proofs.Faults.{clear_both, handed}
 use Rattle.problem.specs.File.{words_of}
 use Rattle.problem.specs.Wrong.{file_fault}
 use Rattle.problem.proofs.Wrong.{file-formed}
 use Rattle.reader.specs.Promise.{Opened}
 use Rattle.proposal.specs.Accepted.{check_fault, Accepted}
-use Rattle.proposal.specs.Accept.{Admitted}
-use Rattle.std.specs.Prelude.{Err, Ok}
+use Rattle.proposal.specs.Accept.{Admitted, Tested}
+use Rattle.std.specs.Prelude.{Ok, Err, IsErrAnd}
 use Rattle.rules.specs.Refusal.{Fault}
+use Rattle.rules.specs.Paper.{Answer}
 
--- ---- the file is refused
-pub refused-file : (f w : List ℕ) {q : Refusal} → file_fault f ≡ Err q → check_fault f w ≡ Err q
-refused-file f w h = rw h
+-- ---- a refusal that is handed on: the file's, and where it is read as a problem the proposal's
+pub answered-file : (f w e : List ℕ) (r : Answer) {q : Refusal} → file_fault f ≡ Err q → IsErrAnd r (λ u. u ≡ q) → Tested f w e r
+answered-file f w b r h e = rw (handed e) (rw h)
 
--- it is read, and y is what is wrong with the proposal
-module _ (w : List ℕ) {f e : List ℕ} {n : ℕ} {y : Fault} (opened : Opened f e n) (ey : y ≡ proposal_fault (take n e) w) where
-  pub found : check_fault f w ≡ y
-  found = rw (opened.clear, ← opened.front) (sym ey)
+module _ (w : List ℕ) {f e : List ℕ} {n : ℕ} (opened : Opened f e n) {y : Fault} (tested : y ≡ proposal_fault (take n e) w) where
+  found : check_fault f w ≡ y
+  found = rw (opened.clear, ← opened.front) (sym tested)
 
+  pub answered-proposal : (r : Answer) {q : Refusal} → y ≡ Err q → IsErrAnd r (λ u. u ≡ q) → Tested f w e r
+  answered-proposal r h e = rw (handed e) (found ∙ h)
+
+  -- what is wrong with neither is accepted
   pub admitted : y ≡ Ok tt → Admitted f w e n
   admitted h = record {
     clear = found ∙ h;
     within = opened.within;
     front = opened.front;
-    accepted = record { formed = opened.formed; faultless = sym ey ∙ h };
+    accepted = record { formed = opened.formed; faultless = sym tested ∙ h };
   }
+
+pub ruleset accepting = (answered-file, answered-proposal, admitted)
 
 -- what has no fault is accepted
 pub clear-accepted : (f w : List ℕ) → check_fault f w ≡ Ok tt → Accepted (words_of f) w

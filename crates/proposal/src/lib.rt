@@ -85,6 +85,7 @@ pub fn kept_fault(p: &[u32], k: &[u32], taken: &mut [u32; words::MOST_ROWS]) -> 
 }
 
 // Reads the problem into a buffer that is large enough for any, hands its refusal on, and tests the proposal.
+#[tactic(auto, using(crate::proofs::Accepting::accepting))]
 pub fn accept(file: &[u8], proposal: &[u32], words: &mut [u32]) -> Result<usize, Refusal>
     requires { most_words ≤ length words.old }
     ensures { Tested file.now proposal.now words.new result }
