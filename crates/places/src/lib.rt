@@ -8,7 +8,7 @@ ghost use Rattle.rules.specs.Parts.{Member};
 ghost use Rattle.rules.specs.Tests.{own_fault};
 ghost use Rattle.places.specs.Places.{most_planned, table_at, table_words, Few, Steps, Allowed, Allows, Beside, Copied, FirstRow};
 
-use rules::{Fault, placing, words};
+use rules::{placing, words};
 
 // The most messages that are planned, and the words of a table: one for each message and row.
 pub const MOST_PLANNED: usize = 16;
@@ -31,11 +31,7 @@ fn may_stand(p: &[u32], j: usize, step: usize, c: usize, r: usize) -> bool
     requires { Member p.now j × (step ≡ repeat p.now j) }
     ensures { result ≡ is_clear (own_fault p.now j c r) }
 {
-    let fault = placing::own_fault(p, j, step, c, r);
-    match fault {
-        Fault::Clear => true,
-        Fault::Bad(_) => false,
-    }
+    placing::own_fault(p, j, step, c, r).is_ok()
 }
 
 // The columns in which message j may stand with base row r.

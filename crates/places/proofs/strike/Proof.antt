@@ -31,8 +31,8 @@ abbrev decreases-loop : tie.decreases-loop-j
 decreases-loop p steps table₀ left m c r count j₀ table j = count - j
 
 -- it is that of the two messages
-both : (c : tie.After-smaller-common invariant-loop2 decreases-loop2 invariant-loop decreases-loop) → Shared c.args.p.now c.args.m c.loop-j.j c.smaller-common.result
-both c = let asked = c.requires in shared asked.1.0 asked.1.1.0.0 (omega arith) c.smaller-common.ensures
+both : (c : tie.After-min-common invariant-loop2 decreases-loop2 invariant-loop decreases-loop) → Shared c.args.p.now c.args.m c.loop-j.j c.min-common.result
+both c = let asked = c.requires in shared asked.1.0 asked.1.1.0.0 (omega arith) c.min-common.ensures
 
 loop-holds : tie.Need-loop-j-init invariant-loop2 decreases-loop2 invariant-loop decreases-loop
 loop-holds c = (search rules, c.before.before.requires.1.1.1, made-start _ _ _)
@@ -49,7 +49,7 @@ rem-i c = (both c).some
 loop2-holds : tie.Need-loop-i-init invariant-loop2 decreases-loop2 invariant-loop decreases-loop
 loop2-holds c =
     let r = c.args.r in
-    let h : r % c.smaller-common.result < c.smaller-common.result = mod-lt r (both c).some in
+    let h : r % c.min-common.result < c.min-common.result = mod-lt r (both c).some in
     (omega (arith, h), c.loop-j.invariant.1, mod-eq_of_lt h, strike-start _ _ _ _ _ (both c) _)
 
 table-at-requires : tie.Need-table_at-k-requires invariant-loop2 decreases-loop2 invariant-loop decreases-loop
