@@ -49,7 +49,8 @@ impl<'a> Plannable<'a> {
 
     // How many rows its matrix has.
     pub fn rows(&self) -> usize
-        ensures { (result ≡ rows self.now) × (1 ≤ result) × (result ≤ 64) }
+        ensures is { (result ≡ rows self.now) × (1 ≤ result) × (result ≤ 64) }
+        ensures few { Few self.now }
     {
         words::rows_of(self.words)
     }
