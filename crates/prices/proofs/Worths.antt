@@ -41,9 +41,6 @@ module _ (y : List ℕ) (i : ℕ) where
         ]
       ]
 
-  pub counted_none : (x : ℕ) → Counted y i x 0 x
-  counted_none x = record { least = omega arith; most = omega arith }
-
   pub counted_next : {x t k q z w at : ℕ} → at ≡ cell_at i k → q ≡ get_or y at 0 → q ≤ most_price → Lowest z k w → Counted y i x t z → Counted y i x (t + q) w
   counted_next {k = k} {q = q} e v h D K =
       let s = less D.below D.rest in
@@ -65,6 +62,3 @@ worth-next y u n h g = let s = sum-next n (λ i. worth_in y i (get_or u i 0)) in
 pub worth-none : (y u : List ℕ) → worth y 0 u ≤ 0
 unfolding worth sum
 worth-none y u = omega arith
-
-pub worth-all : (y u : List ℕ) (n m : ℕ) {t : ℕ} → n ≡ m → worth y n u ≤ t → worth y m u ≤ t
-worth-all y u n m {t} e h = subst (λ (k : ℕ). worth y k u ≤ t) e h

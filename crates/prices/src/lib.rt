@@ -51,12 +51,7 @@ pub fn sum_at(s: usize, r: usize, c: usize) -> usize
 }
 
 // The columns of row i in which a message of `left` may be sent, and the same for each row.
-fn joint_in(
-    p: &Plannable,
-    table: &[u32; places::TABLE_WORDS],
-    left: u32,
-    i: usize,
-) -> u32
+fn joint_in(p: &Plannable, table: &[u32; places::TABLE_WORDS], left: u32, i: usize) -> u32
     requires i_lt_most_rows { i < most_rows }
     ensures { JointIn p.now table.now left i (messages p.now) result }
 {
