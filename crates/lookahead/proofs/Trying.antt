@@ -3,6 +3,7 @@ use Prim.Native.Nat.{ℕ, ◌<◌, ◌≤◌}
 use mathlib.Core.Path.{◌≡◌, refl, sym, subst, ◌∙◌}
 use mathlib.Core.Bool.{Bool, true, false}
 use mathlib.Core.List.{List}
+use Rattle.std.specs.Prelude.{None}
 use native.Mathlib.Decide.{ℕ_discrete}
 use native.Mathlib.Omega.{arith}
 use lib.ListN.{length, get_or, set}
@@ -19,11 +20,11 @@ use Rattle.lookahead.specs.Probe.{Cautious}
 use Rattle.places.proofs.Meets.{low_column, clash-meets, not-met}
 
 -- ---- a message without a place
-pub shut_none : {p a : List ℕ} {l m n r : ℕ} → m < messages p → Has l m → FirstRow a m n r → repeat p m ≤ r → Shut p a l
-shut_none {p} {a} {l} {m} lm hm F h = record {
+pub shut_none : {p a : List ℕ} {l m n : ℕ} → m < messages p → Has l m → n ≡ repeat p m → FirstRow a m n None → Shut p a l
+shut_none {p} {a} {l} {m} lm hm e F = record {
   none = λ w S W.
       let b = (stands S m lm).row_below in
-      has-none (column w m) (subst (λ (x : ℕ). Has x (column w m)) (F.none (row w m) (omega arith)) (W.has m lm hm));
+      has-none (column w m) (subst (λ (x : ℕ). Has x (column w m)) (F (row w m) (omega arith)) (W.has m lm hm));
 }
 
 -- ---- a place that leaves the others no room

@@ -58,7 +58,8 @@ impl<'a> Plannable<'a> {
     // How often message j is sent: every so many rows.
     pub fn step(&self, j: usize) -> usize
         requires { j < messages self.now }
-        ensures { Repeat self.now j result }
+        ensures often { Repeat self.now j result }
+        ensures few { Few self.now }
     {
         let steps = &self.steps;
         steps[j]
