@@ -1,20 +1,16 @@
 -- A table that is narrowed by prices round by round, beside the cells of its places.
 use Prim.Native.Nat.{ℕ, ◌≤◌}
-use mathlib.Core.Path.{◌≡◌}
 use mathlib.Core.List.{List}
 use Rattle.rules.specs.Problem.{rows, messages}
 use Rattle.places.specs.Places.{Few, Narrowed}
 use Rattle.prices.specs.Prices.{worth, Joint, Sums, Owed, Paid}
-use Rattle.lookahead.proofs.Narrowing.{narrowed-same, narrowed-then}
+use Rattle.lookahead.proofs.Narrowing.{narrowed-then}
 use Rattle.prices.proofs.Paying.{narrowed, joint-less}
 
 -- the table a comes of e and loses nothing without a fault; u has the cells of its places
 pub record Tight (p : List ℕ) (l : ℕ) (e a u : List ℕ) : Type 0 where
   pub keeps : Narrowed p l e a
   pub covers : Joint p a l (rows p) u
-
-pub tight-start : {p a u : List ℕ} {l : ℕ} → Joint p a l (rows p) u → Tight p l a a u
-tight-start {p} {a} {u} {l} J = record { keeps = narrowed-same p l a; covers = J }
 
 -- the places that are too dear go, and the cells may stay
 pub tight-paid : {p e a b u y x v : List ℕ} {l t m : ℕ} → Few p → Sums p y x → worth y (rows p) u ≤ m → Owed p a x l (messages p) v t
