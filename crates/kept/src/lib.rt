@@ -7,15 +7,16 @@ ghost use Rattle.kept.specs.Kept.{keeps as keepsMessage, put};
 
 use rules::words;
 
-// The word that stands twice where a message has no placement to keep.
+// The word that stands twice where a message has no placement to keep. It stays a number: callers hand such lists over as words (the C interface).
 pub const NONE: usize = 4294967295;
 
 // Whether a list keeps message j. Half a none is a placement.
+#[tactic(auto, unfolding(crate::specs::Kept::keeps))]
 pub fn keeps(k: &[u32], j: usize) -> bool
     requires { Gives k.now j }
     ensures { result ≡ keepsMessage k.now j }
 {
-    (words::column_of(k, j) != NONE) | (words::row_of(k, j) != NONE)
+    words::column_of(k, j) != NONE || words::row_of(k, j) != NONE
 }
 
 // Gives message j column c and base row r.
