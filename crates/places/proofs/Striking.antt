@@ -9,9 +9,10 @@ use lib.Arith.{digits_mod}
 use lib.ListN.{length, get_or, set}
 use Rattle.basics.specs.Bits.{Cleared}
 use Rattle.basics.proofs.Tests.{below_or}
-use Rattle.rules.specs.Problem.{most_rows, messages}
+use Rattle.rules.specs.Problem.{most_rows}
+use Rattle.rules.specs.Parts.{Repeat}
 use Rattle.rules.specs.Tests.{common}
-use Rattle.places.specs.Places.{table_at, Steps, Spared, Copied, Beside}
+use Rattle.places.specs.Places.{table_at, Spared, Copied, Beside}
 use Rattle.places.proofs.Tables.{Row, row-start, row_more, row-stay}
 
 -- from a number to the next with the same rest there is none
@@ -36,12 +37,9 @@ pub record Shared (p : List ℕ) (m j n : ℕ) : Type 0 where
   pub some : 0 < n
   pub most : n ≤ most_rows
 
-pub shared : {p s : List ℕ} {m j n : ℕ} → Steps p s → m < messages p → j < messages p → n ≡ min (get_or s m 0) (get_or s j 0) → Shared p m j n
+pub shared : {p : List ℕ} {m j x y n : ℕ} → Repeat p m x → Repeat p j y → n ≡ min x y → Shared p m j n
 unfolding common
-shared {p} {s} {m} {j} S lm lj e =
-    let a = S.each m lm in
-    let b = S.each j lj in
-    record { is = e ∙ ap₂ min a.is b.is; some = omega (arith, a.least, b.least); most = omega (arith, a.most) }
+shared a b e = record { is = e ∙ ap₂ min a.is b.is; some = omega (arith, a.least, b.least); most = omega (arith, a.most) }
 
 module _ (p : List ℕ) (m c r j : ℕ) where
   -- a row that does not meet it stays
