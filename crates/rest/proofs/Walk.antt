@@ -15,7 +15,7 @@ pub free-none : (k : List ℕ) → free_of k 0 ≡ 0
 unfolding free_of sum
 free-none k = refl
 
-free-next : (k : List ℕ) (j : ℕ) → free_of k (j + 1) ≡ free_of k j + only (not (keeps k j)) 1
+pub free-next : (k : List ℕ) (j : ℕ) → free_of k (j + 1) ≡ free_of k j + only (not (keeps k j)) 1
 unfolding free_of
 free-next k j = sum-next j _
 

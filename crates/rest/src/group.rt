@@ -1,5 +1,5 @@
 // Some messages of a problem, no more than are planned at most. A clause sees the list of their numbers.
-ghost use Rattle.std.specs.Prelude.{◌≡◌, ◌<◌, ◌≤◌, ◌↔◌, [], ◌∷◌, ◌++◌, IsTrue, length};
+ghost use Rattle.std.specs.Prelude.{◌≡◌, ◌<◌, ◌≤◌, [], ◌∷◌, ◌++◌, length};
 ghost use Rattle.places.specs.Places.{most_planned};
 
 use places::MOST_PLANNED;
@@ -40,13 +40,6 @@ impl Group {
         ensures few { length self.now ≤ most_planned }
     {
         &self.numbers[..self.count]
-    }
-
-    // Whether one more may be added.
-    pub fn has_room(&self) -> bool
-        ensures { IsTrue result ↔ (length self.now < most_planned) }
-    {
-        self.count < MOST_PLANNED
     }
 
     // Adds a message behind the others.

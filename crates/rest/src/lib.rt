@@ -26,9 +26,7 @@ pub fn free_count(kept: &[u32], messages: usize) -> usize
 {
     let mut count = 0;
     for j in 0..messages {
-        if !kept::keeps(kept, j) {
-            count += 1;
-        }
+        count += usize::from(!kept::keeps(kept, j));
     }
     count
 }
@@ -38,12 +36,12 @@ pub fn free_of(kept: &[u32], messages: usize) -> Result<Group, Refusal>
     requires { (messages ≤ most_messages) × (length kept.now ≡ 2 * messages) }
     ensures { MatchResult result (λ g. Free kept.now messages g (length g) × (length g ≡ free_of kept.now messages)) (λ q. (q ≡ TooMany) × (most_planned < free_of kept.now messages)) }
 {
+    if places::MOST_PLANNED < free_count(kept, messages) {
+        return Err(Refusal::TooMany);
+    }
     let mut group = Group::none();
     for j in 0..messages {
         if !kept::keeps(kept, j) {
-            if !group.has_room() {
-                return Err(Refusal::TooMany);
-            }
             group.add(j);
         }
     }
