@@ -3,12 +3,12 @@
 
 mod group;
 
-ghost use Rattle.std.specs.Prelude.{◌≡◌, ◌+◌, ◌*◌, ◌<◌, ◌≤◌, MatchResult, length, take};
+ghost use Rattle.std.specs.Prelude.{◌≡◌, ◌+◌, ◌*◌, ◌<◌, ◌≤◌, MatchResult, length};
 ghost use Rattle.rules.specs.Problem.{WellFormed, messages as messageCount, most_messages};
 ghost use Rattle.rules.specs.declared.Refusal.TheVariants.{TooMany};
 ghost use Rattle.places.specs.Places.{most_planned};
 ghost use Rattle.rest.specs.Free.{free_of, Free};
-ghost use Rattle.rest.specs.Part.{part_words, Part, Numbers, Filed};
+ghost use Rattle.rest.specs.Part.{Part, Numbers, Filed};
 ghost use Rattle.rest.specs.Joined.{Joined};
 
 pub use group::Group;
@@ -49,8 +49,8 @@ pub fn free_of(kept: &[u32], messages: usize) -> Result<Group, Refusal>
 }
 
 // Copies the record of message j to slot s of a problem with the same columns.
-fn copy_message(p: &[u32], j: usize, s: usize, q: &mut [u32])
-    requires { WellFormed p.now × (j < messageCount p.now) × (s < most_planned) × (part_words ≤ length q.old) }
+fn copy_message(p: &[u32], j: usize, s: usize, q: &mut [u32; PART_WORDS])
+    requires { WellFormed p.now × (j < messageCount p.now) × (s < most_planned) }
     ensures { Filed p.now j s q.old q.new }
 {
     let columns = words::columns_of(p);
@@ -59,20 +59,19 @@ fn copy_message(p: &[u32], j: usize, s: usize, q: &mut [u32])
     basics::copy_words(&p[from..from + words::MESSAGE_WORDS], &mut q[to..]);
 }
 
-// Some messages of a problem as a problem of their own, at the front of a buffer. How many words it has.
-pub fn part_of(p: &[u32], group: &Group, q: &mut [u32]) -> usize
-    requires well_formed { WellFormed p.now × Numbers p.now group.now (length group.now) }
-    requires part_words_in_bounds { part_words ≤ length q.old }
-    ensures { (result ≤ length q.new) × Part p.now group.now (length group.now) (take result q.new) }
+// Some messages of a problem as a problem of their own, in a buffer that the caller lends.
+pub fn part_of<'a>(p: &[u32], group: &Group, buffer: &'a mut [u32; PART_WORDS]) -> &'a [u32]
+    requires { WellFormed p.now × Numbers p.now group.now (length group.now) }
+    ensures { Part p.now group.now (length group.now) result.now }
 {
     let columns = words::columns_of(p);
     let numbers = group.numbers();
-    basics::copy_words(&p[..words::column_at(columns)], q);
-    q[words::MESSAGES] = numbers.len() as u32;
+    basics::copy_words(&p[..words::column_at(columns)], buffer);
+    buffer[words::MESSAGES] = numbers.len() as u32;
     for (s, j) in numbers.iter().enumerate() {
-        copy_message(p, *j, s, q);
+        copy_message(p, *j, s, buffer);
     }
-    words::message_at(columns, numbers.len())
+    &buffer[..words::message_at(columns, numbers.len())]
 }
 
 // One proposal of the kept placements and of a plan for the other messages.

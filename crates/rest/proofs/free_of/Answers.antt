@@ -1,7 +1,5 @@
 -- A message more that is not kept stands behind the others, for whom there is room: no more are free than are planned.
-use Rattle.std.proofs.Common.{arith, sym, ◌∙◌, ◌+◌, ◌≤◌, length, refl}
-use Rattle.std.proofs.lemmas.Grind.{common_steps}
-use Rattle.places.specs.Places.{most_planned}
+use Rattle.std.proofs.Common.{arith, sym, ◌∙◌, ◌+◌}
 use Rattle.rest.proofs.Walk.{walked_none, walked-kept, walked-free, next-free, free-rises}
 use Rattle.rest.proofs.free_of.Goals as goal
 use Rattle.rest.proofs.free_of.Goals.{then-not-keeps, else-not-keeps}
