@@ -1,11 +1,5 @@
 -- Placements put into a copy of the kept ones, slot by slot: no slot is that of a kept message, nor that of another slot.
-use Prim.Native.Nat.{ℕ, ◌+◌, ◌*◌, ◌<◌, ◌≤◌}
-use mathlib.Core.Path.{◌≡◌, ap, ◌∙◌}
-use mathlib.Core.Bool.{true}
-use mathlib.Core.List.{List}
-use native.Mathlib.Omega.{arith}
-use borrow.Author.Count.{below_more}
-use lib.ListN.{length, get_or}
+use Rattle.std.proofs.Common.{ℕ, ◌+◌, ◌*◌, ◌<◌, ◌≤◌, ◌≡◌, ap, ◌∙◌, true, List, arith, below_more, length, get_or}
 use Rattle.basics.proofs.Tests.{not-both}
 use Rattle.rules.specs.Problem.{column, row, most_messages}
 use Rattle.kept.specs.Kept.{keeps, put}
