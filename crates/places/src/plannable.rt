@@ -49,7 +49,8 @@ impl<'a> Plannable<'a> {
 
     // How many rows its matrix has.
     pub fn rows(&self) -> usize
-        ensures { (result ≡ rows self.now) × (1 ≤ result) × (result ≤ 64) }
+        ensures is { (result ≡ rows self.now) × (1 ≤ result) × (result ≤ 64) }
+        ensures few { Few self.now }
     {
         words::rows_of(self.words)
     }
@@ -57,7 +58,8 @@ impl<'a> Plannable<'a> {
     // How often message j is sent: every so many rows.
     pub fn step(&self, j: usize) -> usize
         requires { j < messages self.now }
-        ensures { Repeat self.now j result }
+        ensures often { Repeat self.now j result }
+        ensures few { Few self.now }
     {
         let steps = &self.steps;
         steps[j]
