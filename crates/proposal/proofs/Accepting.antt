@@ -6,40 +6,38 @@ use lib.ListN.{length, take}
 use lib.Seq.{length-take-le}
 use Rattle.rules.specs.declared.Refusal.{Refusal}
 use Rattle.rules.specs.Tests.{proposal_fault}
-use Rattle.rules.proofs.Faults.{clear_both}
+use Rattle.rules.proofs.Faults.{clear_both, handed}
 use Rattle.problem.specs.File.{words_of}
 use Rattle.problem.specs.Wrong.{file_fault}
 use Rattle.problem.proofs.Wrong.{file-formed}
-use Rattle.reader.specs.Promise.{Opened, Decoded}
-use Rattle.reader.proofs.Decoding.{answered-bad, answered-words}
+use Rattle.reader.specs.Promise.{Opened}
 use Rattle.proposal.specs.Accepted.{check_fault, Accepted}
 use Rattle.proposal.specs.Accept.{Admitted, Tested}
-use Rattle.std.specs.Prelude.{Err, Ok}
+use Rattle.std.specs.Prelude.{Ok, Err, IsErrAnd}
 use Rattle.rules.specs.Refusal.{Fault}
 use Rattle.rules.specs.Paper.{Answer}
 
--- the file is refused
-pub tested-file : (w : List ℕ) {f e : List ℕ} {r : Answer} {q : Refusal} → Decoded f e r → r ≡ Err q → Tested f w e r
-tested-file w {q = q} d h = answered-bad q h (rw (d.refuses q h))
+-- ---- a refusal that is handed on: the file's, and where it is read as a problem the proposal's
+pub answered-file : (f w e : List ℕ) (r : Answer) {q : Refusal} → file_fault f ≡ Err q → IsErrAnd r (λ u. u ≡ q) → Tested f w e r
+answered-file f w b r h e = rw (handed e) (rw h)
 
--- it is read, and y is what is wrong with the proposal
-module _ (w : List ℕ) {f e : List ℕ} {r : Answer} {n : ℕ} {y : Fault} (d : Decoded f e r) (is : r ≡ Ok n) (ey : y ≡ proposal_fault (take n e) w) where
-  opened : Opened f e n
-  opened = d.opens n is
-
+module _ (w : List ℕ) {f e : List ℕ} {n : ℕ} (opened : Opened f e n) {y : Fault} (tested : y ≡ proposal_fault (take n e) w) where
   found : check_fault f w ≡ y
-  found = rw (opened.clear, ← opened.front) (sym ey)
+  found = rw (opened.clear, ← opened.front) (sym tested)
 
-  pub tested-proposal : {q : Refusal} {s : Answer} → s ≡ Err q → y ≡ Err q → Tested f w e s
-  tested-proposal {q} s h = answered-bad q s (found ∙ h)
+  pub answered-proposal : (r : Answer) {q : Refusal} → y ≡ Err q → IsErrAnd r (λ u. u ≡ q) → Tested f w e r
+  answered-proposal r h e = rw (handed e) (found ∙ h)
 
-  pub tested-clear : {s : Answer} → s ≡ Ok n → y ≡ Ok tt → Tested f w e s
-  tested-clear s-is h = answered-words n s-is record {
+  -- what is wrong with neither is accepted
+  pub admitted : y ≡ Ok tt → Admitted f w e n
+  admitted h = record {
     clear = found ∙ h;
     within = opened.within;
     front = opened.front;
-    accepted = record { formed = opened.formed; faultless = sym ey ∙ h };
+    accepted = record { formed = opened.formed; faultless = sym tested ∙ h };
   }
+
+pub ruleset accepting = (answered-file, answered-proposal, admitted)
 
 -- what has no fault is accepted
 pub clear-accepted : (f w : List ℕ) → check_fault f w ≡ Ok tt → Accepted (words_of f) w

@@ -11,9 +11,9 @@ use lib.ListN.{length}
 use borrow.Author.Count.{below_more}
 use borrow.Author.Tests.{eq-eqb, ne_eqb}
 use Rattle.basics.specs.Tests.{some}
-use Rattle.basics.proofs.Tests.{true-or, not-both, some_at, some-none}
+use Rattle.basics.proofs.Tests.{true-or, not-both, some-none}
 use Rattle.rules.specs.declared.Refusal.{Refusal}
-use Rattle.rules.specs.declared.Refusal.TheVariants.{ProposalLength, Meeting}
+use Rattle.rules.specs.declared.Refusal.TheVariants.{ProposalLength}
 use Rattle.rules.specs.Parts.{Member}
 use Rattle.rules.specs.Problem.{rows, columns, messages, repeat, proposal_words, column, row, WellFormed, Placed}
 use Rattle.rules.specs.Refusal.{guard, ◌⊕◌, first_fault, Fault}
@@ -26,24 +26,6 @@ use Rattle.row_words.specs.RowWords.{Taken, RowWords, Occupied}
 use Rattle.row_words.proofs.Taking.{tells-meeting, words_more}
 use Rattle.proposal.specs.Partial.{looked, fault_in, kept_fault, Walked}
 use Rattle.std.specs.Prelude.{Err, Ok}
-
--- ---- the earlier messages, where one of them meets message j
--- messages 0 to i - 1 do not
-pub record Unmet (p w : List ℕ) (i j : ℕ) : Type 0 where
-  pub none : (k : ℕ) → k < i → meets p w k j ≡ false
-
-pub unmet-none : {p w : List ℕ} {j : ℕ} → Unmet p w 0 j
-unmet-none = record { none = λ k l. absurd (omega arith) }
-
-pub unmet-more : {p w : List ℕ} {i j : ℕ} {b : Bool} → Unmet p w i j → b ≡ meets p w i j → b ≡ false → Unmet p w (i + 1) j
-unmet-more u e h = record { none = below_more _ _ u.none (sym e ∙ h) }
-
--- so i is an earlier one too
-pub sought : {p w : List ℕ} {i j : ℕ} → some j (λ k. meets p w k j) ≡ true → Unmet p w i j → i < j
-sought {p} {w} {i} {j} h n =
-    let k = some_at j (λ k. meets p w k j) h in
-    let least : ¬ (k.0 < i) = λ l. not-both k.2 (n.none k.0 l) in
-    omega (arith, k.1)
 
 -- ---- which messages are looked at
 module _ (partial : Bool) (p w : List ℕ) (j : ℕ) where
@@ -131,11 +113,15 @@ module _ {partial : Bool} {p w t t' : List ℕ} {j : ℕ} {b : Bool} (u : Turn p
   pub tells : b ≡ some j (λ k. meets p w k j)
   tells = tells-meeting u.member u.words u.marked placed met-placed
 
-  -- where it did not, it has no fault, and the words say what it has taken too
-  pub passed-more : b ≡ false → Passed partial p w (j + 1)
+  -- where it did not, it meets nobody
+  pub untaken : b ≡ false → meeting_fault p w j ≡ Ok tt
+  untaken h = unmet-clear p w j (some-none j (λ k. meets p w k j) (sym tells ∙ h))
+
+  -- a message that meets nobody has no fault, and the words say what it has taken too
+  pub passed-more : meeting_fault p w j ≡ Ok tt → Passed partial p w (j + 1)
   unfolding fault
   passed-more h =
-      let clear : fault p w j ≡ Ok tt = rw u.own (unmet-clear p w j (some-none j (λ k. meets p w k j) (sym tells ∙ h))) in
+      let clear : fault p w j ≡ Ok tt = rw (u.own, h) in
       record { each = below_more _ _ u.before.each (looked-fault partial p w j u.looked-at ∙ clear) }
 
   pub words-passed : RowWords p w (j + 1) t'
@@ -157,13 +143,11 @@ module _ {partial : Bool} {p w t : List ℕ} {j m : ℕ} (a : Passed partial p w
   unfolding fault
   own_first l k e h = first-here l k (rw (← e.is, h))
 
-  -- of a meeting the lowest earlier message is named
-  pub met-first : {i : ℕ} {b : Bool} → j < m → looked partial w j ≡ true → own_fault p j (column w j) (row w j) ≡ Ok tt → Unmet p w i j → i < j → b ≡ meets p w i j → b ≡ true
-      → Walked (first_fault m (fault_in partial p w)) p w t (Err (Meeting j i))
-  unfolding fault meeting_fault
-  met-first {i} l k own n h e met =
-      let lowest = first-at j (λ k. guard (meets p w k j) (Meeting j k)) i (Meeting j i) h (λ g h. rw (n.none g h)) (rw (← e, met)) in
-      first-here l k (rw own lowest)
+  -- or, where it has none by itself, its meeting
+  pub met-first : {q : Refusal} → j < m → looked partial w j ≡ true → own_fault p j (column w j) (row w j) ≡ Ok tt → Err q ≡ meeting_fault p w j
+      → Walked (first_fault m (fault_in partial p w)) p w t (Err q)
+  unfolding fault
+  met-first l k own e = first-here l k (rw (own, ← e))
 
 -- ---- the number of words comes first
 module _ (p w : List ℕ) {n : ℕ} (en : n ≡ proposal_words p) where

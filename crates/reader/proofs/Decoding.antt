@@ -1,6 +1,6 @@
 -- What stands in front of a buffer after a file's words were read into it, and what the reader's promises then say.
 use Prim.Native.Nat.{ℕ, ◌<◌, ◌≤◌}
-use mathlib.Core.Path.{◌≡◌, refl, sym, ap, ◌∙◌}
+use mathlib.Core.Path.{◌≡◌, refl, ◌∙◌}
 use mathlib.Core.List.{List, ◌++◌}
 use native.Mathlib.Omega.{arith}
 use borrow.Author.Tests.{lt-ltb, le-ltb}
@@ -19,33 +19,14 @@ use Rattle.problem.proofs.File.{length-words}
 use Rattle.problem.proofs.Wrong.{Head, file-rest, file-formed}
 use Rattle.problem.proofs.Callers.{recast-length}
 use Rattle.rules.proofs.Told.{answers-refused, answers-done}
-use Rattle.reader.specs.Promise.{Answered, Laid, Opened, Decoded, Reading}
+use Rattle.reader.specs.Promise.{Laid, Opened, Reading}
 use Rattle.reader.specs.Parts.{Sized}
 use Rattle.std.specs.Prelude.{Err, Ok}
 use Rattle.rules.specs.Refusal.{Fault}
-use Rattle.rules.specs.Paper.{Answer, count_of, paper}
 
 pub head-sized : {L : Layout} (f : List ℕ) (k m : ℕ) → Head f → L ≡ layout_in f → k ≡ columns_in f → m ≡ messages_in f → Sized L f k m
 head-sized f k m h l p q =
     record { columns-are = p; messages-are = q; bytes = rw (l, p, q) h.bytes; columns-most = omega arith; messages-most = omega arith }
-
--- ---- an answer is a refusal or so many words
-module _ {x : Fault} {P : ℕ → Type 0} {r : Answer} where
-  pub answered-bad : (q : Refusal) → r ≡ Err q → x ≡ Err q → Answered x P r
-  answered-bad q e h = record {
-    refuses = λ u s. h ∙ cc;
-    opens = λ n s. absurd (let z : ◌≡◌ {A = ℕ} 0 1 = cc in omega arith);
-  }
-
-  pub answered-words : (n : ℕ) → r ≡ Ok n → P n → Answered x P r
-  answered-words n e h = record {
-    refuses = λ q s. absurd (let z : ◌≡◌ {A = ℕ} 0 1 = cc in omega arith);
-    opens = λ i s. let i-is : n ≡ i = cc in rw (← i-is) h;
-  }
-
--- a refusal that is handed on
-pub refused-is : {x : Fault} {P : ℕ → Type 0} {r : Answer} {q t : Refusal} → Answered x P r → r ≡ Err q → t ≡ refusal r → x ≡ Err t
-refused-is {q = q} h is t-is = h.refuses q is ∙ ap Err (sym (t-is ∙ ap refusal is))
 
 -- the words of a file with k columns and m messages, which are n, stand in front of the buffer e
 pub laid : {L : Layout} (f w e : List ℕ) (k m n : ℕ) → head_fault f ≡ Ok tt → L ≡ layout_in f → Sized L f k m → most_words ≤ length e
@@ -70,16 +51,13 @@ laid f w e k m n clear layout s l read n-is =
 
 -- where they stand they are tested, which gives x
 module _ {f e : List ℕ} {n : ℕ} (a : Laid f e n) {x : Fault} (tested : x ≡ words_fault (take n e)) where
-  fault-is : file_fault f ≡ x
+  pub fault-is : file_fault f ≡ x
   fault-is = file-rest f _ x a.clear a.front tested
 
-  pub decoded-bad : {r : Answer} {q : Refusal} → r ≡ Err q → x ≡ Err q → Decoded f e r
-  decoded-bad {q = q} is h = answered-bad q is (fault-is ∙ h)
-
-  pub decoded-clear : {r : Answer} → r ≡ Ok n → x ≡ Ok tt → Decoded f e r
-  decoded-clear is h =
+  pub opened : x ≡ Ok tt → Opened f e n
+  opened h =
       let c : file_fault f ≡ Ok tt = fault-is ∙ h in
-      answered-words n is record { clear = c; within = a.within; front = a.front; formed = rw a.front (file-formed f c) }
+      record { clear = c; within = a.within; front = a.front; formed = rw a.front (file-formed f c) }
 
 -- the words in front of a buffer that holds a problem are as many as the answer says
 pub opened-length : {f b : List ℕ} {n : ℕ} → Opened f b n → length (take n b) ≡ n
@@ -101,8 +79,8 @@ opened-said {f} o ek em =
 
 -- ---- the caller's own buffer
 module _ (f d b : List ℕ) where
-  pub reading-refused : (r : Answer) (q : Refusal) → Decoded f b r → r ≡ Err q → Reading f d d r
-  reading-refused r q h e = answers-refused q (ap paper e) (ap count_of e) (rw (h.refuses q e))
+  pub reading-refused : {q : Refusal} → file_fault f ≡ Err q → Reading f d d (Err q)
+  reading-refused h = answers-refused _ (rw h)
 
   -- what callers see of the words, where t are said of each column
   module _ {n t k m c : ℕ} (o : Opened f b n) (et : t ≡ column_words (layout_in f)) (ek : k ≡ columns_in f) (em : m ≡ messages_in f) (ec : c ≡ said_for t k m) where
@@ -111,7 +89,7 @@ module _ (f d b : List ℕ) where
     said-are = recast-length 3 (column_words (layout_in f)) (words_of f) (file-formed f o.clear).words ∙ rw (ec, et, ek, em)
 
     pub reading-short : length d < c → Reading f d d (Err Room)
-    reading-short l = answers-refused Room refl refl (rw (o.clear, said-are, lt-ltb (length d) c l))
+    reading-short l = answers-refused Room (rw (o.clear, said-are, lt-ltb (length d) c l))
 
     pub reading-done : {e : List ℕ} → c ≤ length d → e ≡ recast 3 t (take n b) ++ drop (said_for t k m) d → Reading f d e (Ok c)
-    reading-done l w = answers-done refl refl (rw (o.clear, said-are, le-ltb (length d) c l)) said-are (w ∙ rw (o.front, ec, et))
+    reading-done l w = answers-done (rw (o.clear, said-are, le-ltb (length d) c l)) said-are (w ∙ rw (o.front, ec, et))

@@ -5,22 +5,18 @@ use mathlib.Core.List.{List, ◌++◌}
 use borrow.Author.Tests.{le-ltb}
 use lib.ListN.{length, drop}
 use Rattle.rules.specs.Problem.{WellFormed}
-use Rattle.rules.proofs.Told.{Told, answered, refusing, told-one, answers_one}
+use Rattle.rules.proofs.Told.{answered, told, told-one, answers_one}
 use Rattle.problem.specs.declared.layout.Layout.{Layout}
 use Rattle.problem.specs.File.{file_of, Held}
 use Rattle.problem.specs.Callers.{narrow, said_of}
 use Rattle.problem.proofs.RoundTrip.{read-written, layout-forth}
 use Rattle.reader.specs.Promise.{read_fault, Reading}
-use Rattle.std.specs.Prelude.{Err, Ok}
-use Rattle.rules.specs.Paper.{Answer, count_of, paper}
-
-told : (r : Answer) → Told Ok Err r (paper r) (count_of r)
-told (Ok n) = answered n
-told (Err q) = refusing q 0
+use Rattle.std.specs.Prelude.{Ok}
+use Rattle.rules.specs.Paper.{Answer}
 
 -- Two results that the promise allows are equal
 pub read_one : (f d e e' : List ℕ) (r r' : Answer) → Reading f d e r → Reading f d e' r' → (r ≡ r') × (e ≡ e')
-read_one f d e e' r r' h k = answers_one told h k
+read_one f d e e' r r' h k = answers_one h k
 
 -- The file of a well-formed problem, of a version that has room for it, is read as its words in that version, wherever there is room for them
 pub reads-written : (L : Layout) (p d e : List ℕ) (r : Answer) → WellFormed p → Held L p → length (narrow L p) ≤ length d

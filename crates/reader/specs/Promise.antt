@@ -1,19 +1,17 @@
 -- What the reader promises.
-use Rattle.std.specs.Prelude.{ℕ, ◌≤◌, ◌≡◌, List, length, take, Err, Ok}
-use Rattle.rules.specs.declared.Refusal.{Refusal}
+use Rattle.std.specs.Prelude.{ℕ, ◌≤◌, ◌≡◌, List, length, take, Ok, Err, MatchResult}
 use Rattle.rules.specs.Problem.{WellFormed}
-use Rattle.rules.specs.Paper.{Answers, room_fault, Answer, count_of, paper}
-use Rattle.rules.specs.Refusal.{◌⊕◌, Fault}
+use Rattle.rules.specs.Paper.{Answer, Answers, room_fault}
+use Rattle.rules.specs.Refusal.{Fault, ◌⊕◌}
 use Rattle.problem.specs.File.{columns_in, messages_in, words_of}
 use Rattle.problem.specs.Callers.{said_of}
 use Rattle.problem.specs.Parts.{Counted}
 use Rattle.problem.specs.Wrong.{head_fault, file_fault}
 
 -- ---- to the other calls, which lend room enough
--- the answer r of a call that looks for the fault x: a refusal is that fault, and n words are as P says
-pub record Answered (x : Fault) (P : ℕ → Type 0) (r : Answer) : Type 0 where
-  pub refuses : (q : Refusal) → r ≡ Err q → x ≡ Err q
-  pub opens : (n : ℕ) → r ≡ Ok n → P n
+-- the answer r of a call that looks for the fault x: n words are as P says, and a refusal is that fault
+abbrev pub Answered : Fault → (ℕ → Type 0) → Answer → Type 0
+Answered x P r = MatchResult r P (λ q. x ≡ Err q)
 
 -- the file f has no fault in its header and its length, and its n words stand in front of the buffer e
 pub record Laid (f e : List ℕ) (n : ℕ) : Type 0 where

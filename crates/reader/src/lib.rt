@@ -1,8 +1,6 @@
 // From a problem file to its words.
 #![tactic(auto)]
 
-pub mod answer;
-
 ghost use Rattle.std.specs.Prelude.{◌≡◌, ◌∷◌, ◌++◌, ◌+◌, ◌*◌, ◌<◌, ◌≤◌, length, get_or, drop};
 ghost use Rattle.basics.specs.Runs.{Turned};
 ghost use Rattle.rules.specs.Problem.{header_words, words_for, most_words};
@@ -13,14 +11,13 @@ ghost use Rattle.problem.specs.Wrong.{marked, head_fault};
 ghost use Rattle.reader.specs.Promise.{Taken, Decoded, Reading};
 ghost use Rattle.reader.specs.Parts.{Sized};
 
-pub use answer::Read;
 use basics::FILL;
 use problem::Layout;
 use problem::layout::{
     bytes_for, column_size, identifier_size, is_version, layout_of, message_size,
 };
 use problem::recast::{column_words, recast, said_for};
-use rules::{Fault, Refusal, words};
+use rules::{Refusal, refuse_if, words};
 use wellformed::{header_fault, words_fault};
 
 // The number that two bytes are.
@@ -89,12 +86,14 @@ fn read_columns(layout: Layout, part: &[u8], k: usize, words: &mut [u32])
     ensures { Turned (column_of layout) (column_size layout) 3 part.now words.old k words.new }
 {
     let size = column_size(layout);
-    let mut c: usize = 0;
-    while c < k {
+    for c in 0..k {
         let from = size * c;
-        let to = 3 * c;
-        read_column(layout, &part[from..from + size], &mut words[to..to + 3]);
-        c += 1;
+        let to = words::COLUMN_WORDS * c;
+        read_column(
+            layout,
+            &part[from..from + size],
+            &mut words[to..to + words::COLUMN_WORDS],
+        );
     }
 }
 
@@ -138,12 +137,14 @@ fn read_messages(layout: Layout, part: &[u8], m: usize, words: &mut [u32])
     ensures { Turned (message_of layout) (message_size layout) 7 part.now words.old m words.new }
 {
     let size = message_size(layout);
-    let mut j: usize = 0;
-    while j < m {
+    for j in 0..m {
         let from = size * j;
-        let to = 7 * j;
-        read_message(layout, &part[from..from + size], &mut words[to..to + 7]);
-        j += 1;
+        let to = words::MESSAGE_WORDS * j;
+        read_message(
+            layout,
+            &part[from..from + size],
+            &mut words[to..to + words::MESSAGE_WORDS],
+        );
     }
 }
 
@@ -172,32 +173,22 @@ pub fn messages_in(file: &[u8]) -> usize
 }
 
 // What is wrong with the header or the length.
-fn head_fault(file: &[u8]) -> Fault
+fn head_fault(file: &[u8]) -> Result<(), Refusal>
     ensures { result ≡ head_fault file.now }
 {
-    if file.len() < problem::HEAD_BYTES {
-        return Fault::Bad(Refusal::Length);
-    }
-    if !is_marked(file) {
-        return Fault::Bad(Refusal::Mark);
-    }
+    refuse_if(file.len() < problem::HEAD_BYTES, Refusal::Length)?;
+    refuse_if(!is_marked(file), Refusal::Mark)?;
     let version = two_bytes(file, problem::VERSION_AT);
-    if !is_version(version) {
-        return Fault::Bad(Refusal::Version);
-    }
+    refuse_if(!is_version(version), Refusal::Version)?;
     let mut head = [0u32; words::HEADER_WORDS];
     read_header(file, &mut head);
-    let of_header = header_fault(&head);
-    let Fault::Clear = of_header else {
-        return of_header;
-    };
-    if file[problem::LAST_AT] != 0 {
-        return Fault::Bad(Refusal::Header(problem::LAST_AT as u32));
-    }
-    if file.len() != bytes_for(layout_of(version), columns_in(file), messages_in(file)) {
-        return Fault::Bad(Refusal::Length);
-    }
-    Fault::Clear
+    header_fault(&head)?;
+    refuse_if(
+        file[problem::LAST_AT] != 0,
+        Refusal::Header(problem::LAST_AT as u32),
+    )?;
+    let bytes = bytes_for(layout_of(version), columns_in(file), messages_in(file));
+    refuse_if(file.len() != bytes, Refusal::Length)
 }
 
 // The words of a file whose header and length are right, in front of what the buffer holds.
@@ -218,52 +209,40 @@ fn read_words(layout: Layout, file: &[u8], k: usize, m: usize, words: &mut [u32]
 }
 
 // The words of a file whose header and length are right, in the front of a buffer that is large enough for any problem, or the refusal. The words are not tested.
-pub fn words_in(file: &[u8], words: &mut [u32]) -> Read
+pub fn words_in(file: &[u8], words: &mut [u32]) -> Result<usize, Refusal>
     requires { most_words ≤ length words.old }
     ensures { Taken file.now words.new result }
 {
-    let of_head = head_fault(file);
-    if let Fault::Bad(q) = of_head {
-        return Read::Refused(q);
-    }
+    head_fault(file)?;
     let k = columns_in(file);
     let m = messages_in(file);
     read_words(layout_in(file), file, k, m, words);
-    Read::Problem(words::message_at(k, m))
+    Ok(words::message_at(k, m))
 }
 
 // A file's words in the front of a buffer that is large enough for any problem, or the refusal.
-pub fn decode(file: &[u8], words: &mut [u32]) -> Read
+pub fn decode(file: &[u8], words: &mut [u32]) -> Result<usize, Refusal>
     requires { most_words ≤ length words.old }
     ensures { Decoded file.now words.new result }
 {
-    let got = words_in(file, words);
-    let Read::Problem(n) = got else {
-        return got;
-    };
-    let fault = words_fault(&words[..n], columns_in(file), messages_in(file));
-    if let Fault::Bad(q) = fault {
-        return Read::Refused(q);
-    }
-    got
+    let n = words_in(file, words)?;
+    words_fault(&words[..n], columns_in(file), messages_in(file))?;
+    Ok(n)
 }
 
 // Reads a problem file of either version into the caller's buffer, which keeps its words beyond the problem's.
-pub fn read(file: &[u8], words: &mut [u32]) -> Read
+pub fn read(file: &[u8], words: &mut [u32]) -> Result<usize, Refusal>
     ensures { Reading file.now words.old words.new result }
 {
     let mut buffer = [FILL; words::MOST_WORDS];
-    let got = decode(file, &mut buffer);
-    let Read::Problem(n) = got else {
-        return got;
-    };
+    let n = decode(file, &mut buffer)?;
     let said = column_words(layout_in(file));
     let k = columns_in(file);
     let m = messages_in(file);
     let count = said_for(said, k, m);
     if words.len() < count {
-        return Read::Refused(Refusal::Room);
+        return Err(Refusal::Room);
     }
     recast(&buffer[..n], words::COLUMN_WORDS, said, k, m, words);
-    Read::Problem(count)
+    Ok(count)
 }

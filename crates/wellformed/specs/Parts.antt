@@ -1,12 +1,6 @@
 -- What the functions that test words ask of them and say.
-use Rattle.std.specs.Prelude.{ℕ, ◌+◌, ◌<◌, ◌≤◌, ◌≡◌, not, List, eqb, length}
-use Rattle.rules.specs.declared.Refusal.TheVariants.{Header}
-use Rattle.rules.specs.Refusal.{guard, Fault}
+use Rattle.std.specs.Prelude.{ℕ, ◌+◌, ◌<◌, ◌≤◌, ◌≡◌, List, length}
 use Rattle.rules.specs.Problem.{column_at, message_at, columns, earliest}
-
--- the fault of the header's number at byte b, where 0 is none
-unfoldable pub header_at : ℕ → Fault
-header_at b = guard (not (eqb b 0)) (Header b)
 
 -- p has the three words of column c
 pub record HasColumn (p : List ℕ) (c : ℕ) : Type 0 where

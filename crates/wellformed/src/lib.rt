@@ -3,18 +3,17 @@
 
 ghost use Rattle.std.specs.Prelude.{◌≡◌, ◌+◌, ◌<◌, ◌≤◌, eqb, length};
 ghost use Rattle.basics.specs.Bits.{bit};
-ghost use Rattle.basics.specs.Sums.{only};
-ghost use Rattle.rules.specs.Refusal.{guard, ◌⊕◌, first_fault};
+ghost use Rattle.rules.specs.Refusal.{guard, first_fault};
 ghost use Rattle.rules.specs.declared.Refusal.TheVariants.{Header};
 ghost use Rattle.rules.specs.Problem.{header_words, start, width, kind, field, nodes, triggers};
 ghost use Rattle.rules.specs.Rules.{is_row_count, header_fault, column_wrong, repeated, identity_wrong, on_grid, timing_wrong};
 ghost use Rattle.rules.specs.Rules.{column_fault, message_fault, node_fault, words_fault};
 ghost use Rattle.problem.specs.Parts.{Counted};
-ghost use Rattle.wellformed.specs.Parts.{header_at, HasColumn, Reached, HasMessage};
+ghost use Rattle.wellformed.specs.Parts.{HasColumn, Reached, HasMessage};
 
 use basics::{has_bit, is_outside};
 use problem::{COLUMNS_AT, CYCLE_AT, LIMIT_AT, MESSAGES_AT, REF_ID_AT, REF_LEN_AT, ROWS_AT};
-use rules::{Fault, Refusal, words};
+use rules::{Refusal, refuse_if, words};
 
 // Whether a matrix may have r rows.
 fn is_row_count(r: u32) -> bool
@@ -23,53 +22,27 @@ fn is_row_count(r: u32) -> bool
     (r == 1) | (r == 2) | (r == 4) | (r == 8) | (r == 16) | (r == 32) | (r == 64)
 }
 
-// The byte of a header's number that a test finds wrong; 0 where it does not.
-fn wrong_at(test: bool, byte: usize) -> u32
-    requires { (0 < byte) × (byte < 16) }
-    ensures { header_at result ≡ guard test (Header byte) }
+// The refusal of the header's number at a byte, where it is wrong.
+fn header_number(wrong: bool, byte: usize) -> Result<(), Refusal>
+    requires { byte < 16 }
+    ensures { result ≡ guard wrong (Header byte) }
 {
-    match test {
-        true => byte as u32,
-        false => 0,
-    }
-}
-
-// The first of two bytes, where 0 is none.
-fn first(a: u32, b: u32) -> u32
-    ensures { header_at result ≡ header_at a ⊕ header_at b }
-{
-    if a == 0 {
-        return b;
-    }
-    a
-}
-
-// The fault of the header's number at a byte, where 0 is none.
-fn header_at(byte: u32) -> Fault
-    ensures { result ≡ header_at byte }
-{
-    if byte == 0 {
-        return Fault::Clear;
-    }
-    Fault::Bad(Refusal::Header(byte))
+    refuse_if(wrong, Refusal::Header(byte as u32))
 }
 
 // The first number of the header, in file order, that is outside its range.
-pub fn header_fault(words: &[u32]) -> Fault
+pub fn header_fault(words: &[u32]) -> Result<(), Refusal>
     requires { header_words ≤ length words.now }
     ensures { result ≡ header_fault words.now }
 {
     let cycle = words[words::CYCLE];
-    let of_rows = wrong_at(!is_row_count(words[words::ROWS]), ROWS_AT);
-    let of_cycle = wrong_at(is_outside(cycle, 1, 65535), CYCLE_AT);
-    let of_window = wrong_at(is_outside(words[words::REF_LEN], 65, cycle), REF_LEN_AT);
-    let of_reference = wrong_at(2047 < words[words::REF_ID], REF_ID_AT);
-    let of_limit = wrong_at(is_outside(words[words::LIMIT], 1, 32), LIMIT_AT);
-    let of_columns = wrong_at(is_outside(words[words::COLUMNS], 1, 32), COLUMNS_AT);
-    let of_messages = wrong_at(64 < words[words::MESSAGES], MESSAGES_AT);
-    let of_counts = first(of_limit, first(of_columns, of_messages));
-    let of_reference_message = first(of_window, first(of_reference, of_counts));
-    header_at(first(of_rows, first(of_cycle, of_reference_message)))
+    header_number(!is_row_count(words[words::ROWS]), ROWS_AT)?;
+    header_number(is_outside(cycle, 1, 65535), CYCLE_AT)?;
+    header_number(is_outside(words[words::REF_LEN], 65, cycle), REF_LEN_AT)?;
+    header_number(2047 < words[words::REF_ID], REF_ID_AT)?;
+    header_number(is_outside(words[words::LIMIT], 1, 32), LIMIT_AT)?;
+    header_number(is_outside(words[words::COLUMNS], 1, 32), COLUMNS_AT)?;
+    header_number(64 < words[words::MESSAGES], MESSAGES_AT)
 }
 
 // Where a column ends; two words of any size fit.
@@ -128,23 +101,16 @@ fn column_wrong(words: &[u32], c: usize, from: u64) -> bool
 }
 
 // The first column that breaks its rule.
-fn columns_fault(words: &[u32], k: usize, m: usize) -> Fault
+fn columns_fault(words: &[u32], k: usize, m: usize) -> Result<(), Refusal>
     requires { Counted words.now k m }
     ensures { result ≡ first_fault k (column_fault words.now) }
 {
-    let mut from = end_of(0, words[words::REF_LEN]);
-    let mut c: usize = 0;
-    let fault = 'columns: loop {
-        if k <= c {
-            break 'columns Fault::Clear;
-        }
-        if column_wrong(words, c, from) {
-            break 'columns Fault::Bad(Refusal::Column(c as u32));
-        }
+    let mut from = u64::from(words[words::REF_LEN]);
+    for c in 0..k {
+        refuse_if(column_wrong(words, c, from), Refusal::Column(c as u32))?;
         from = end_of(start_in(words, c), width_in(words, c));
-        c += 1;
-    };
-    fault
+    }
+    Ok(())
 }
 
 // Whether an earlier message has message j's identifier.
@@ -153,12 +119,10 @@ fn is_repeated(words: &[u32], k: usize, j: usize) -> bool
     ensures { result ≡ repeated words.now j }
 {
     let id = field_in(words, k, j, words::IDENTIFIER);
-    let mut i: usize = 0;
-    while i < j {
+    for i in 0..j {
         if field_in(words, k, i, words::IDENTIFIER) == id {
             return true;
         }
-        i += 1;
     }
     false
 }
@@ -194,14 +158,11 @@ fn identity_wrong(words: &[u32], k: usize, j: usize) -> bool
 pub fn is_on_grid(rows: u32, cycle: u32, period: u32) -> bool
     ensures { result ≡ on_grid rows cycle period }
 {
-    let mut power: u64 = 1;
-    let mut k: u32 = 0;
-    while k < 7 {
-        if (power <= rows as u64) & (period as u64 == cycle as u64 * power) {
+    for k in 0..7 {
+        let power = 2u64.pow(k);
+        if (power <= u64::from(rows)) & (u64::from(period) == u64::from(cycle) * power) {
             return true;
         }
-        power = power * 2;
-        k += 1;
     }
     false
 }
@@ -221,34 +182,15 @@ fn timing_wrong(words: &[u32], k: usize, j: usize) -> bool
 }
 
 // The first message that breaks a rule, and of it the lower number.
-fn messages_fault(words: &[u32], k: usize, m: usize) -> Fault
+fn messages_fault(words: &[u32], k: usize, m: usize) -> Result<(), Refusal>
     requires { Counted words.now k m }
     ensures { result ≡ first_fault m (message_fault words.now) }
 {
-    let mut j: usize = 0;
-    let fault = 'messages: loop {
-        if m <= j {
-            break 'messages Fault::Clear;
-        }
-        if identity_wrong(words, k, j) {
-            break 'messages Fault::Bad(Refusal::Identity(j as u32));
-        }
-        if timing_wrong(words, k, j) {
-            break 'messages Fault::Bad(Refusal::Timing(j as u32));
-        }
-        j += 1;
-    };
-    fault
-}
-
-// 1 where the test holds, and else 0.
-fn once(test: bool) -> u32
-    ensures { (result ≡ only test 1) × (result ≤ 1) }
-{
-    match test {
-        true => 1,
-        false => 0,
+    for j in 0..m {
+        refuse_if(identity_wrong(words, k, j), Refusal::Identity(j as u32))?;
+        refuse_if(timing_wrong(words, k, j), Refusal::Timing(j as u32))?;
     }
+    Ok(())
 }
 
 // The triggers of a node.
@@ -257,43 +199,34 @@ pub fn triggers_of(words: &[u32], k: usize, m: usize, node: u32) -> u32
     ensures { result ≡ triggers words.now node }
 {
     let mut count: u32 = 1;
-    let mut j: usize = 0;
-    while j < m {
-        let sent = once(field_in(words, k, j, words::SENDER) == node);
-        let received = once(is_receiver(field_in(words, k, j, words::RECEIVERS), node));
-        count = count + sent + received;
-        j += 1;
+    for j in 0..m {
+        let is_sent = field_in(words, k, j, words::SENDER) == node;
+        let is_received = is_receiver(field_in(words, k, j, words::RECEIVERS), node);
+        count = count + u32::from(is_sent) + u32::from(is_received);
     }
     count
 }
 
 // The lowest node that needs more triggers than it may have.
-fn nodes_fault(words: &[u32], k: usize, m: usize) -> Fault
+fn nodes_fault(words: &[u32], k: usize, m: usize) -> Result<(), Refusal>
     requires { Counted words.now k m }
     ensures { result ≡ first_fault nodes (node_fault words.now) }
 {
-    let mut n: u32 = 0;
-    while n < words::NODES {
-        if words[words::LIMIT] < triggers_of(words, k, m, n) {
-            return Fault::Bad(Refusal::Triggers(n));
-        }
-        n += 1;
+    for n in 0..words::NODES {
+        refuse_if(
+            words[words::LIMIT] < triggers_of(words, k, m, n),
+            Refusal::Triggers(n),
+        )?;
     }
-    Fault::Clear
+    Ok(())
 }
 
 // The first fault of the words behind the header, for k columns and m messages as the header says.
-pub fn words_fault(words: &[u32], k: usize, m: usize) -> Fault
+pub fn words_fault(words: &[u32], k: usize, m: usize) -> Result<(), Refusal>
     requires { Counted words.now k m }
     ensures { result ≡ words_fault words.now }
 {
-    let of_columns = columns_fault(words, k, m);
-    let Fault::Clear = of_columns else {
-        return of_columns;
-    };
-    let of_messages = messages_fault(words, k, m);
-    let Fault::Clear = of_messages else {
-        return of_messages;
-    };
+    columns_fault(words, k, m)?;
+    messages_fault(words, k, m)?;
     nodes_fault(words, k, m)
 }
