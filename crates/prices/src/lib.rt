@@ -2,10 +2,10 @@
 // Nothing is asked of the prices.
 #![tactic(auto)]
 
-ghost use Rattle.std.specs.Prelude.{◌≡◌, ◌+◌, ◌*◌, ◌<◌, ◌≤◌, length};
+ghost use Rattle.std.specs.Prelude.{◌≡◌, ◌*◌, ◌<◌, ◌≤◌};
 ghost use Rattle.rules.specs.Problem.{most_rows, most_columns, rows, messages};
 ghost use Rattle.places.specs.Places.{most_planned};
-ghost use Rattle.prices.specs.Prices.{cell_at, most_cells, most_price, dearest, worth_in, worth, row_worth, most_worth, JointIn, Joint};
+ghost use Rattle.prices.specs.Prices.{cell_at, most_cells, dearest, worth_in, worth, row_worth, most_worth, JointIn, Joint};
 ghost use Rattle.prices.specs.Prices.{sum_at, most_sums, Halved, Sums, Cheap, Owed, PaidIn, Paid};
 
 use places::Plannable;
@@ -22,9 +22,6 @@ pub const SUMS: usize = 2 * CELLS;
 
 // More than any place costs: at most 64 cells at the highest price, 65,535.
 pub const DEAREST: u32 = 4194304;
-
-// More than any sum of prices. Of what is smaller two can be added.
-const NO_SUM: u32 = 2147483648;
 
 // A place and at most what it costs.
 #[derive(Drop)]
@@ -50,7 +47,7 @@ pub fn sum_at(s: usize, r: usize, c: usize) -> usize
     words::MOST_COLUMNS * (s + r) + c
 }
 
-// The columns of row i in which a message of `left` may be sent, and the same for each row.
+// The columns of row i in which a message of `left` may be sent.
 fn joint_in(p: &Plannable, table: &[u32; places::TABLE_WORDS], left: u32, i: usize) -> u32
     requires i_lt_most_rows { i < most_rows }
     ensures { JointIn p.now table.now left i (messages p.now) result }
@@ -64,6 +61,7 @@ fn joint_in(p: &Plannable, table: &[u32; places::TABLE_WORDS], left: u32, i: usi
     x
 }
 
+// The same for each row.
 pub fn joint(
     p: &Plannable,
     table: &[u32; places::TABLE_WORDS],
@@ -107,7 +105,7 @@ fn halve(sums: &mut [u32; SUMS], n: usize)
     ensures { Halved n sums.old sums.new }
 {
     for k in 0..n {
-        sums[n + k] = sums[2 * n + k] % NO_SUM + sums[3 * n + k] % NO_SUM;
+        sums[n + k] = sums[2 * n + k].wrapping_add(sums[3 * n + k]);
     }
 }
 
@@ -119,13 +117,15 @@ pub fn add_up(p: &Plannable, prices: &[u16; CELLS], sums: &mut [u32; SUMS])
     for k in 0..n {
         sums[n + k] = u32::from(prices[k]);
     }
+    // n is halved: no range steps so
     while words::MOST_COLUMNS < n {
         n = n / 2;
         halve(sums, n);
     }
 }
 
-// The cheapest place of message j.
+// The cheapest place of message j. A message without a place has DEAREST and the first cell, and not an option: the number is used as a bound all the same, and
+// the look-ahead finds out by itself that there is no place.
 pub fn cheapest(
     table: &[u32; places::TABLE_WORDS],
     sums: &[u32; SUMS],
