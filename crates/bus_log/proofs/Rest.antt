@@ -1,6 +1,7 @@
 -- A log behind its first matrix cycle: each pair must be the one of the matrix cycle before, a matrix cycle later.
 use Rattle.std.proofs.Common.{ℕ, suc, ◌+◌, ◌*◌, ◌-◌, ◌/◌, ◌%◌, ◌<◌, ◌≤◌, min, ◌≡◌, refl, sym, ap, subst, ◌∙◌, List, ◌++◌, length, get_or, take, drop, length-append, length-drop, Result, Ok, Err, IsErrAnd, arith}
 use Rattle.std.specs.Result.{result_err}
+use native.Mathlib.Nat.{mul-le-mul}
 use lib.ListN.{get_or-append}
 use lib.Seq.{get_or-take, get_or-drop, length-take-le}
 use Rattle.basics.specs.Runs.{run}
@@ -29,7 +30,6 @@ pub record Lengths (log : List ℕ) (n reach : ℕ) : Type 0 where
   pub reached : n ≤ reach
   pub in-log : reach ≤ length log
   pub even : (reach - n) % 2 ≡ 0
-  pub before : length (take (reach - n) log) ≡ reach - n
   pub behind : length (take (reach - n) (drop n log)) ≡ reach - n
 
 -- what to answer, where x is due, `full` words, and n + r of the log are right: the pair behind them is not, or the log goes on, or it is clean
@@ -80,6 +80,9 @@ module _ {p w t : List ℕ} (a : Accepted p w) (b : Table p w (messages p) t) (s
     pub first-few : {n : ℕ} → Begins one log (Ok n) → n ≤ most_rows * row_most
     first-few b = omega (arith, first-size b, rows-most p t (rows p) a.formed.header.columns-most, a.formed.header.rows-most)
 
+    pub all-few : {n : ℕ} → Begins one log (Ok n) → n * span ≤ most_rows * row_most * most_span
+    all-few b = mul-le-mul {n₂ = most_rows * row_most} {m₂ = most_span} (first-few b) few
+
     first-same : {n : ℕ} → Begins one log (Ok n) → Same all log n
     first-same (with_all n en e) = record {
       inside = omega (arith, ap length all-parts, length-append one (run more (λ i. words_of_row p t (rows p + i))));
@@ -113,7 +116,6 @@ module _ {p w t : List ℕ} (a : Accepted p w) (b : Table p w (messages p) t) (s
               reached = omega arith;
               in-log = omega arith;
               even = omega arith;
-              before = length-take-le (reach - n) log (omega arith);
               behind = length-take-le (reach - n) (drop n log) (rw length-drop (omega arith));
             }
 
@@ -138,25 +140,17 @@ module _ {p w t : List ℕ} (a : Accepted p w) (b : Table p w (messages p) t) (s
             let two = pair-first.0 in
             record { time = tell.time ∙ ap (◌+ later) (sym (s.each (2 * m) (omega arith))); identifier = tell.identifier ∙ sym (s.each (2 * m + 1) (omega arith)) }
 
-        tells : (m : ℕ) → 2 * m + 1 < reach - n → Same all log (n + 2 * m) → Tells all (take (reach - n) log) n later (2 * m)
-        tells m l s =
-            let tell = log-again m (omega arith) s in
-            record {
-              time = tell.time ∙ ap (◌+ later) (sym (get_or-take (reach - n) log (2 * m) 0 (omega arith)));
-              identifier = tell.identifier ∙ sym (get_or-take (reach - n) log (2 * m + 1) 0 l);
-            }
-
         -- r words agree, and the pair behind them does not
-        module _ {r : ℕ} (c : Agreeing (take (reach - n) log) later (take (reach - n) (drop n log)) r) where
+        module _ {r : ℕ} (c : Agreeing log later (take (reach - n) (drop n log)) r) where
           -- r is even too
           whole : (r % 2 ≡ 0) × (r ≤ reach - n)
-          whole = (c.agreed.whole, omega (arith, c.agreed.inside, lengths-by.before))
+          whole = (c.agreed.whole, omega (arith, c.agreed.in-log, lengths-by.behind))
 
           rest-same : Same all log (n + r)
           rest-same =
               let h = whole in
               let s = lengths-by in
-              same-on log n reads fits begun c.agreed (omega arith) (λ m l so_far. tells m (omega arith) so_far)
+              same-on log n reads fits begun c.agreed (omega arith) (λ m l so_far. log-again m (omega arith) so_far)
 
           -- ---- the answers
           -- the pair that is due behind them
@@ -178,9 +172,8 @@ module _ {p w t : List ℕ} (a : Accepted p w) (b : Table p w (messages p) t) (s
                   let two = pair-first.1 in
                   let pairs = all-even in
                   let next = due-next l in
-                  let half : 2 * (r / 2) ≡ r = omega arith in
                   differing-at rest-same (omega arith) (omega arith) even (et ∙ sym next.time) (ed ∙ sym next.identifier)
-                  (λ there. apart-at log n reads fits (omega (arith, lengths-by.behind)) c (omega (arith, lengths-by.before)) (omega (arith, lengths-by.behind)) (rw half at (tells (r / 2) (omega arith) (rw half rest-same))))
+                  (λ there. apart-at log n reads fits (omega (arith, lengths-by.behind)) c (omega arith) (omega (arith, lengths-by.behind)) next)
 
               -- a time that is due fits a word
               rest-fits : n + r < full → get_or log r 0 + later < 4294967296
@@ -215,7 +208,7 @@ module _ {p w t : List ℕ} (a : Accepted p w) (b : Table p w (messages p) t) (s
       lengths = lengths-by {later = matrix p} (first-same first) even (first-size first) full_is refl er
 
       pub outcome : {rows-is cycle-is r : ℕ} → rows-is ≡ rows p → cycle-is ≡ cycle p
-          → Agreeing (take (reach - n) log) (rows-is * cycle-is) (take (reach - n) (drop n log)) r → Outcome all log n (n * span) (rows-is * cycle-is) r
+          → Agreeing log (rows-is * cycle-is) (take (reach - n) (drop n log)) r → Outcome all log n (n * span) (rows-is * cycle-is) r
       outcome el ec c = outcome-by (first-same first) even (first-size first) full_is (rw (el, ec)) er c
 
 -- ---- the answer, where the log and what is due are told

@@ -20,7 +20,7 @@ pub const PAIR: usize = 2;
 // A span has 1 to 100 matrix cycles.
 pub const MOST_SPAN: u32 = 100;
 
-// Twice this is due where nothing is.
+// Twice this is due where nothing is: a number, as the C interface hands on the three words of a Difference (FFY_NONE of include/ffynorwel.h).
 pub const NOTHING: u32 = 4294967295;
 
 // A row has at most the reference message and a send in each column.
@@ -40,7 +40,8 @@ fn put_pair(list: &mut [u32], time: usize, identifier: usize)
     list[1] = identifier as u32;
 }
 
-// The words of a cell in which the message of this number, counted from 1, starts, none where the number is 0; answers how many words they are.
+// The words of a cell in which the message of this number, counted from 1, starts, none where the number is 0 (the table of cells is bytes, in fixed memory);
+// answers how many words they are.
 fn write_cell(p: &[u32], number: usize, time: usize, list: &mut [u32]) -> usize
     requires well_formed { WellFormed p.now × (number ≤ messageCount p.now) × (time < 4294967296) }
     requires time_in_bounds { length (cell_words p.now number time) ≤ length list.old }
@@ -187,7 +188,7 @@ fn hold_accepted(p: &[u32], w: &[u32], log: &[u32], span: usize) -> Result<(), D
     let all = n * span;
     let later = words::rows_of(p) * words::cycle_of(p);
     let reach = log.len().min(all);
-    let more = agreeing(&log[..reach - n], later, &log[n..reach]);
+    let more = agreeing(log, later, &log[n..reach]);
     let same = n + more;
     if same < all {
         return Err(Difference {
