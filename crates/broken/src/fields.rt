@@ -43,15 +43,15 @@ pub fn first_like(words: &[u32], size: usize, j: u32) -> u32
 // A number by its name.
 pub fn value(name: &[u8], n: u32) {
     paper::say(name);
-    paper::say_number(b" ", n);
+    paper::say_count(b" ", n);
     paper::say(b"; it must be ");
 }
 
 // A number that must be in a range.
 pub fn range(name: &[u8], n: u32, low: u32, high: u32) {
     value(name, n);
-    paper::say_number(b"", low);
-    paper::say_number(b" to ", high);
+    paper::say_count(b"", low);
+    paper::say_count(b" to ", high);
 }
 
 // An identifier that must be in its range.
@@ -64,14 +64,14 @@ pub fn identifier(name: &[u8], id: u32) {
 // An identifier that something before has too.
 pub fn taken(id: u32, thing: &[u8], i: u32) {
     paper::say_hex(b"identifier ", id as usize);
-    paper::say_number(thing, i);
+    paper::say_count(thing, i);
     paper::say(b" has it too, and each must have its own");
 }
 
 // A number that must be below the period.
 pub fn below(name: &[u8], n: u32, period: u32) {
     value(name, n);
-    paper::say_number(b"below ", period);
+    paper::say_count(b"below ", period);
     paper::say(b", the period");
 }
 

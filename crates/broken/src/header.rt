@@ -26,7 +26,7 @@ pub fn file_length(file: &[u8]) {
     let messages = reader::messages_in(file);
     let layout = reader::layout_in(file);
     contents(columns, messages);
-    paper::say_number(b" make a file of version ", version_of(layout));
+    paper::say_count(b" make a file of version ", version_of(layout));
     paper::say_count(b" of ", bytes_for(layout, columns, messages));
 }
 
@@ -99,9 +99,9 @@ pub fn mark(file: &[u8]) {
     if file.len() < HEAD_BYTES {
         return;
     }
-    paper::say_number(b": the bytes ", u32::from(file[0]));
-    paper::say_number(b" ", u32::from(file[1]));
-    paper::say_number(b" ", u32::from(file[2]));
+    paper::say_count(b": the bytes ", u32::from(file[0]));
+    paper::say_count(b" ", u32::from(file[1]));
+    paper::say_count(b" ", u32::from(file[2]));
     paper::say(
         b" in front; a problem file has 84 83 77 there, the mark TSM, and a word list is not named .tsm",
     );
@@ -114,7 +114,7 @@ pub fn version(file: &[u8]) {
     }
     let version = reader::two_bytes(file, problem::VERSION_AT);
     if is_version(version) {
-        paper::say_number(b": the file is already of version ", version);
+        paper::say_count(b": the file is already of version ", version);
         return;
     }
     paper::say(b", byte 3: ");
@@ -138,7 +138,7 @@ fn count_rule(words: &[u32], at: usize) {
 // The reference window, or a basic cycle that has no room for one and a column.
 fn reference_window(n: u32, cycle: u32) {
     if cycle <= 65 {
-        paper::say_number(b"basic cycle ", cycle);
+        paper::say_count(b"basic cycle ", cycle);
         paper::say(b"; it must be 66 at least, for the reference window and a column");
         return;
     }
@@ -195,7 +195,7 @@ pub fn file_number(file: &[u8], at: u32) {
     if file.len() < HEAD_BYTES {
         return;
     }
-    paper::say_number(b", byte ", at);
+    paper::say_count(b", byte ", at);
     if at as usize == problem::LAST_AT {
         paper::say(b": ");
         value(b"the last byte of the header", u32::from(file[problem::LAST_AT]));

@@ -19,13 +19,13 @@ pub fn name(thing: &[u8], j: usize, identifier: usize) {
 pub fn explain(q: Refusal) {
     match q {
         Refusal::Room => paper::say(b": the output is longer than its room"),
-        Refusal::Unheld(i) => paper::say_number(
+        Refusal::Unheld(i) => paper::say_count(
             b": version 1 has no room for the kind of column, else for the identifier of message ",
             i,
         ),
         _ => {
             let told = rules::paper_of(q);
-            paper::say_number(b": place ", told.place);
+            paper::say_count(b": place ", told.place);
         }
     }
 }

@@ -150,7 +150,7 @@ fn before(c: u32) {
         paper::say(b", where the reference window ends");
         return;
     }
-    paper::say_number(b", where column ", c - 1);
+    paper::say_count(b", where column ", c - 1);
     paper::say(b" ends");
 }
 
@@ -160,7 +160,7 @@ fn early(start: u32, from: usize, cycle: u32, c: u32) {
     paper::say_count(b"at least ", from);
     before(c);
     if (cycle as usize) < from {
-        paper::say_number(b", beyond the basic cycle, ", cycle);
+        paper::say_count(b", beyond the basic cycle, ", cycle);
     }
 }
 
@@ -186,10 +186,10 @@ fn miscounted(given: Given, kind: u32) {
 
 // A column that ends beyond the basic cycle.
 fn beyond(words: &[u32], start: u32, width: u32) {
-    paper::say_number(b"start ", start);
-    paper::say_number(b" and width ", width);
+    paper::say_count(b"start ", start);
+    paper::say_count(b" and width ", width);
     paper::say_count(b" end at ", start as usize + width as usize);
-    paper::say_number(b"; it must end at ", word(words, words::CYCLE));
+    paper::say_count(b"; it must end at ", word(words, words::CYCLE));
     paper::say(b", the basic cycle, or before");
 }
 
@@ -197,7 +197,7 @@ fn beyond(words: &[u32], start: u32, width: u32) {
 fn column(rule: Rule, words: &[u32], columns: &[u32], c: u32) {
     let start = field(columns, COLUMN_WORDS, c, words::START);
     let width = field(columns, COLUMN_WORDS, c, words::WIDTH);
-    paper::say_number(b", column ", c);
+    paper::say_count(b", column ", c);
     paper::say(b": ");
     match rule {
         Rule::Start => range(b"start", start, 0, MOST),
@@ -217,9 +217,9 @@ fn column(rule: Rule, words: &[u32], columns: &[u32], c: u32) {
 
 // A message that its sender receives.
 fn own(receivers: u32, sender: u32) {
-    paper::say_number(b"receivers ", receivers);
-    paper::say_number(b" have its sender among them, node ", sender);
-    paper::say_number(
+    paper::say_count(b"receivers ", receivers);
+    paper::say_count(b" have its sender among them, node ", sender);
+    paper::say_count(
         b"; they must be ",
         basics::clear_bit(receivers, sender % words::NODES),
     );
@@ -247,7 +247,7 @@ fn timing(rule: Rule, words: &[u32], messages: &[u32], j: u32) {
     match rule {
         Rule::Period => {
             fields::value(b"period", period);
-            paper::say_number(b"", word(words, words::CYCLE));
+            paper::say_count(b"", word(words, words::CYCLE));
             powers(word(words, words::ROWS));
         }
         Rule::Offset => fields::below(
@@ -324,12 +324,12 @@ fn limit_place(text: &[u8], given: Given) {
 
 // A node, and how many triggers it needs.
 fn node(words: &[u32], n: u32) {
-    paper::say_number(b", node ", n);
-    paper::say_number(b": it needs ", triggers(words, n));
+    paper::say_count(b", node ", n);
+    paper::say_count(b": it needs ", triggers(words, n));
     paper::say(
         b" triggers, one for the reference and one for each message that it sends or receives; the limit is ",
     );
-    paper::say_number(b"", word(words, words::LIMIT));
+    paper::say_count(b"", word(words, words::LIMIT));
 }
 
 // ---- all of them

@@ -4,8 +4,10 @@ use mathlib.Core.Path.{◌≡◌, ap₂, ◌∙◌}
 use mathlib.Core.List.{List, ◌++◌}
 use borrow.Author.Tests.{le-ltb}
 use lib.ListN.{length, drop}
+use Rattle.std.specs.Prelude.{Ok}
 use Rattle.basics.proofs.Runs.{Small}
-use Rattle.rules.proofs.Told.{Told, answered, refusing, told-one, answers_one}
+use Rattle.rules.specs.Paper.{Answer}
+use Rattle.rules.proofs.Told.{answered, told, told-one, answers_one}
 use Rattle.problem.specs.File.{layout_in, words_of, file_of}
 use Rattle.problem.specs.Callers.{said_of}
 use Rattle.problem.specs.Wrong.{file_fault}
@@ -13,16 +15,10 @@ use Rattle.problem.proofs.Wrong.{formed-held}
 use Rattle.problem.proofs.RoundTrip.{write_read}
 use Rattle.problem.proofs.Callers.{told as told-by, formed-given}
 use Rattle.writer.specs.Promise.{file_for, write_fault, Writing}
-use Rattle.std.specs.Prelude.{Err, Ok}
-use Rattle.rules.specs.Paper.{Answer, count_of, paper}
-
-told : (r : Answer) → Told Ok Err r (paper r) (count_of r)
-told (Ok n) = answered n
-told (Err q) = refusing q 0
 
 -- Two results that the promise allows are equal
 pub write-one : (p d e e' : List ℕ) (r r' : Answer) → Writing p d e r → Writing p d e' r' → (r ≡ r') × (e ≡ e')
-write-one p d e e' r r' h k = answers_one told h k
+write-one p d e e' r r' h k = answers_one h k
 
 -- What a file is read as is written as that file, wherever there is room for it
 pub writes-read : (f d e : List ℕ) (r : Answer) → Small 256 f → file_fault f ≡ Ok tt → length f ≤ length d

@@ -1,54 +1,26 @@
--- A buffer that is filled by calls that set a few bytes each, and what the writer's promise says of each answer.
-use Prim.Native.Nat.{ℕ, ◌+◌, ◌<◌, ◌≤◌}
-use mathlib.Core.Path.{◌≡◌, refl, sym, ap, ◌∙◌}
-use mathlib.Core.List.{List, [], ◌∷◌, ◌++◌}
+-- What the writer's promises say of each answer, and of the words of a caller that stand in a buffer.
+use Prim.Native.Nat.{ℕ, ◌<◌, ◌≤◌}
+use mathlib.Core.Path.{◌≡◌, sym, ◌∙◌}
+use mathlib.Core.List.{List, ◌++◌}
 use native.Mathlib.Omega.{arith}
 use borrow.Author.Tests.{lt-ltb, le-ltb}
-use lib.ListN.{length, take, drop, length-append}
-use lib.Seq.{sets, take_at}
-use Rattle.basics.proofs.Runs.{sets-next, filled}
+use lib.ListN.{length, take, drop}
+use lib.Seq.{take_at}
+use Rattle.std.specs.Prelude.{Err, Ok}
 use Rattle.rules.specs.declared.Refusal.{Refusal}
 use Rattle.rules.specs.declared.Refusal.TheVariants.{Room}
+use Rattle.rules.specs.Refusal.{Fault}
+use Rattle.rules.specs.Paper.{Answer}
 use Rattle.rules.specs.Problem.{words_for, most_words, columns, messages, WellFormed}
 use Rattle.rules.specs.Rules.{words_fault}
 use Rattle.problem.specs.declared.layout.Layout.{Layout}
-use Rattle.problem.specs.Bytes.{low, high, third, top}
 use Rattle.problem.specs.File.{file_of, byte_count}
 use Rattle.problem.specs.Callers.{column_words, said_for, recast, layout_by, problem_of}
 use Rattle.problem.specs.Wrong.{count_fault, problem_fault}
 use Rattle.problem.proofs.File.{length-file}
 use Rattle.problem.proofs.Callers.{recast-columns, recast-messages, given-right, given-count, given-formed, problem-count, problem-rest}
-use Rattle.reader.proofs.Decoding.{refused-is}
 use Rattle.rules.proofs.Told.{answers-refused, answers-done}
-use Rattle.writer.specs.Promise.{Given, Taken, Laying, Writing}
-use Rattle.std.specs.Prelude.{Err, Ok}
-use Rattle.rules.specs.Refusal.{Fault}
-use Rattle.rules.specs.Paper.{Answer}
-
--- a number as one byte, as two and as four
-abbrev pub one : ℕ → List ℕ
-one x = low x ∷ []
-
-abbrev pub two : ℕ → List ℕ
-two x = high x ∷ low x ∷ []
-
-abbrev pub four : ℕ → List ℕ
-four x = top x ∷ third x ∷ high x ∷ low x ∷ []
-
--- l is d with its first n bytes made p
-pub record Begun (d p l : List ℕ) (n : ℕ) : Type 0 where
-  pub is : l ≡ p ++ drop n d
-  pub bytes : length p ≡ n
-
-pub begun : (d : List ℕ) → Begun d [] d 0
-begun d = record { is = refl; bytes = refl }
-
-pub then-set : {d p l : List ℕ} {n : ℕ} (vs m : List ℕ) → Begun d p l n → m ≡ sets l n vs → n + length vs ≤ length d → Begun d (p ++ vs) m (n + length vs)
-then-set {d} {p} {l} {n} vs m b q h =
-    record { is = sets-next d p vs l m n b.is b.bytes h q; bytes = length-append p vs ∙ ap (λ (k : ℕ). k + length vs) b.bytes }
-
-pub all_set : {d p l : List ℕ} {n : ℕ} → Begun d p l n → length d ≡ n → l ≡ p
-all_set {d} {p} {l} {n} b h = filled d p l n b.is h
+use Rattle.writer.specs.Promise.{Given, Laying, Writing}
 
 -- ---- a well-formed problem is laid into a buffer, or there is no room
 module _ (L : Layout) (p d : List ℕ) {n : ℕ} (n-is : n ≡ byte_count L p) where
@@ -56,10 +28,10 @@ module _ (L : Layout) (p d : List ℕ) {n : ℕ} (n-is : n ≡ byte_count L p) w
   bytes-are = length-file L p ∙ sym n-is
 
   pub laying-short : length d < n → Laying L p d d (Err Room)
-  laying-short l = answers-refused Room refl refl (rw (bytes-are, lt-ltb (length d) n l))
+  laying-short l = answers-refused Room (rw (bytes-are, lt-ltb (length d) n l))
 
   pub laying-done : {e : List ℕ} → n ≤ length d → e ≡ file_of L p ++ drop n d → Laying L p d e (Ok n)
-  laying-done l w = answers-done refl refl (rw (bytes-are, le-ltb (length d) n l)) bytes-are w
+  laying-done l w = answers-done (rw (bytes-are, le-ltb (length d) n l)) bytes-are w
 
 -- ---- a caller's words are given, and their problem stands in front of the buffer
 module _ {w b : List ℕ} (d : List ℕ) {n k m : ℕ} where
@@ -88,7 +60,7 @@ module _ {w b : List ℕ} {n : ℕ} (g : Given w b n) {x : Fault} (tested : x �
   fault-is = problem-rest w _ x g.clear g.front tested
 
   pub writing-bad : (d : List ℕ) {q : Refusal} → x ≡ Err q → Writing w d d (Err q)
-  writing-bad d {q} h = answers-refused q refl refl (rw (fault-is ∙ h))
+  writing-bad d {q} h = answers-refused q (rw (fault-is ∙ h))
 
   module _ (clear : x ≡ Ok tt) where
     pub given-is-formed : WellFormed (take n b)
@@ -97,5 +69,6 @@ module _ {w b : List ℕ} {n : ℕ} (g : Given w b n) {x : Fault} (tested : x �
     pub writing-laid : {L : Layout} {d e : List ℕ} {r : Answer} → L ≡ layout_by w → Laying L (take n b) d e r → Writing w d e r
     writing-laid is h = rw (fault-is ∙ clear) (rw (is, g.front) at h)
 
-pub writing-refused : (w d : List ℕ) {b : List ℕ} {r : Answer} {q t : Refusal} → Taken w b r → r ≡ Err q → t ≡ refusal r → Writing w d d (Err t)
-writing-refused w d {t = t} h is t-is = answers-refused t refl refl (rw (problem-count w (refused-is h is t-is)))
+-- what is wrong with their header or their count
+pub writing-refused : (w d : List ℕ) {q : Refusal} → count_fault w ≡ Err q → Writing w d d (Err q)
+writing-refused w d {q} h = answers-refused q (rw (problem-count w h))

@@ -1,8 +1,8 @@
 -- What the writer promises.
 use Rattle.std.specs.Prelude.{ℕ, ◌≤◌, ◌≡◌, List, length, take, Ok}
 use Rattle.rules.specs.Problem.{columns, messages}
-use Rattle.rules.specs.Paper.{Answers, room_fault, Answer, count_of, paper}
-use Rattle.rules.specs.Refusal.{◌⊕◌, Fault}
+use Rattle.rules.specs.Paper.{Answer, Answers, room_fault}
+use Rattle.rules.specs.Refusal.{Fault, ◌⊕◌}
 use Rattle.problem.specs.declared.layout.Layout.{Layout}
 use Rattle.problem.specs.File.{file_of}
 use Rattle.problem.specs.Callers.{layout_by, problem_of}

@@ -1,7 +1,7 @@
 // From a problem's words to its file.
 #![tactic(auto)]
 
-ghost use Rattle.std.specs.Prelude.{◌≡◌, [], ◌∷◌, ◌++◌, ◌+◌, ◌*◌, ◌%◌, ◌<◌, ◌≤◌, length, drop};
+ghost use Rattle.std.specs.Prelude.{◌≡◌, [], ◌∷◌, ◌++◌, ◌+◌, ◌-◌, ◌*◌, ◌≤◌, length, drop};
 ghost use Rattle.std.proofs.lemmas.List.Edits.{sets};
 ghost use Rattle.basics.specs.Runs.{Turned};
 ghost use Rattle.rules.specs.Problem.{header_words, most_words, columns, messages, WellFormed};
@@ -17,48 +17,15 @@ use basics::FILL;
 use problem::Layout;
 use problem::layout::{bytes_for, column_size, identifier_size, message_size, version_of};
 use problem::recast::{column_words, recast, said_for};
-use reader::Read;
-use rules::{Fault, Refusal, words};
+use rules::{Refusal, refuse_if, words};
 use wellformed::{header_fault, words_fault};
 
-// How many bytes the file has, or why there is none.
-#[derive(Drop)]
-pub enum Written {
-    File(usize),
-    Refused(Refusal),
-}
-
-// The lowest byte of a number.
-fn byte(x: u32) -> u8
-    ensures { result ≡ low x }
+// The last N bytes of a number.
+fn put<const N: usize>(out: &mut [u8], at: usize, x: u32)
+    requires { (N ≤ 4) × (at + N ≤ length out.old) }
+    ensures { out.new ≡ sets out.old at (drop (4 - N) (top x ∷ third x ∷ high x ∷ low x ∷ [])) }
 {
-    (x % 256) as u8
-}
-
-// A number as one byte.
-fn put_one(out: &mut [u8], at: usize, x: u32)
-    requires { at + 1 ≤ length out.old }
-    ensures { out.new ≡ sets out.old at (low x ∷ []) }
-{
-    out[at] = byte(x);
-}
-
-// A number as two bytes.
-fn put_two(out: &mut [u8], at: usize, x: u32)
-    requires { at + 2 ≤ length out.old }
-    ensures { out.new ≡ sets out.old at (high x ∷ low x ∷ []) }
-{
-    out[at] = byte(x / 256);
-    out[at + 1] = byte(x);
-}
-
-// A number as four bytes.
-fn put_four(out: &mut [u8], at: usize, x: u32)
-    requires { at + 4 ≤ length out.old }
-    ensures { out.new ≡ sets out.old at (top x ∷ third x ∷ high x ∷ low x ∷ []) }
-{
-    put_two(out, at, x / 65536);
-    put_two(out, at + 2, x);
+    out[at..at + N].copy_from_slice(&x.to_be_bytes()[4 - N..]);
 }
 
 // The mark.
@@ -66,21 +33,7 @@ fn put_mark(out: &mut [u8])
     requires { 3 ≤ length out.old }
     ensures { out.new ≡ sets out.old 0 (84 ∷ 83 ∷ 77 ∷ []) }
 {
-    let mark = b"TSM";
-    out[0] = mark[0];
-    out[1] = mark[1];
-    out[2] = mark[2];
-}
-
-// The header's last four bytes.
-fn put_limits(out: &mut [u8], limit: u32, k: u32, m: u32)
-    requires { head_bytes ≤ length out.old }
-    ensures { out.new ≡ sets out.old 12 (low limit ∷ low k ∷ low m ∷ 0 ∷ []) }
-{
-    out[problem::LIMIT_AT] = byte(limit);
-    out[problem::COLUMNS_AT] = byte(k);
-    out[problem::MESSAGES_AT] = byte(m);
-    out[problem::LAST_AT] = 0;
+    out[..3].copy_from_slice(b"TSM");
 }
 
 // The header's 16 bytes.
@@ -89,17 +42,15 @@ fn write_header(layout: Layout, words: &[u32], out: &mut [u8])
     ensures { out.new ≡ header_bytes layout words.now }
 {
     put_mark(out);
-    put_two(out, problem::VERSION_AT, version_of(layout));
-    put_one(out, problem::ROWS_AT, words[words::ROWS]);
-    put_two(out, problem::CYCLE_AT, words[words::CYCLE]);
-    put_two(out, problem::REF_LEN_AT, words[words::REF_LEN]);
-    put_two(out, problem::REF_ID_AT, words[words::REF_ID]);
-    put_limits(
-        out,
-        words[words::LIMIT],
-        words[words::COLUMNS],
-        words[words::MESSAGES],
-    );
+    put::<2>(out, problem::VERSION_AT, version_of(layout));
+    put::<1>(out, problem::ROWS_AT, words[words::ROWS]);
+    put::<2>(out, problem::CYCLE_AT, words[words::CYCLE]);
+    put::<2>(out, problem::REF_LEN_AT, words[words::REF_LEN]);
+    put::<2>(out, problem::REF_ID_AT, words[words::REF_ID]);
+    put::<1>(out, problem::LIMIT_AT, words[words::LIMIT]);
+    put::<1>(out, problem::COLUMNS_AT, words[words::COLUMNS]);
+    put::<1>(out, problem::MESSAGES_AT, words[words::MESSAGES]);
+    out[problem::LAST_AT] = 0;
 }
 
 // A column's kind, where the version has a byte for it.
@@ -108,7 +59,7 @@ fn put_kind(layout: Layout, out: &mut [u8], x: u32)
     ensures { out.new ≡ sets out.old 4 (kind_bytes layout x) }
 {
     if let Layout::Two = layout {
-        put_one(out, 4, x);
+        put::<1>(out, 4, x);
     }
 }
 
@@ -117,8 +68,8 @@ fn write_column(layout: Layout, words: &[u32], out: &mut [u8])
     requires { (length words.now ≡ 3) × (length out.old ≡ column_size layout) }
     ensures { out.new ≡ column_bytes layout words.now }
 {
-    put_two(out, 0, words[words::START]);
-    put_two(out, 2, words[words::WIDTH]);
+    put::<2>(out, 0, words[words::START]);
+    put::<2>(out, 2, words[words::WIDTH]);
     put_kind(layout, out, words[words::KIND]);
 }
 
@@ -128,12 +79,14 @@ fn write_columns(layout: Layout, part: &[u32], k: usize, out: &mut [u8])
     ensures { Turned (column_bytes layout) 3 (column_size layout) part.now out.old k out.new }
 {
     let size = column_size(layout);
-    let mut c: usize = 0;
-    while c < k {
-        let from = 3 * c;
+    for c in 0..k {
+        let from = words::COLUMN_WORDS * c;
         let to = size * c;
-        write_column(layout, &part[from..from + 3], &mut out[to..to + size]);
-        c += 1;
+        write_column(
+            layout,
+            &part[from..from + words::COLUMN_WORDS],
+            &mut out[to..to + size],
+        );
     }
 }
 
@@ -143,8 +96,8 @@ fn put_identifier(layout: Layout, out: &mut [u8], x: u32)
     ensures { out.new ≡ sets out.old 0 (identifier_bytes layout x) }
 {
     match layout {
-        Layout::One => put_two(out, 0, x),
-        Layout::Two => put_four(out, 0, x),
+        Layout::One => put::<2>(out, 0, x),
+        Layout::Two => put::<4>(out, 0, x),
     }
 }
 
@@ -153,12 +106,12 @@ fn write_rest(words: &[u32], out: &mut [u8])
     requires { (length words.now ≡ 7) × (length out.old ≡ 16) }
     ensures { out.new ≡ rest_bytes words.now }
 {
-    put_one(out, 0, words[words::SENDER]);
-    put_one(out, 1, words[words::SIZE]);
-    put_two(out, 2, words[words::RECEIVERS]);
-    put_four(out, 4, words[words::PERIOD]);
-    put_four(out, 8, words[words::OFFSET]);
-    put_four(out, 12, words[words::DEADLINE]);
+    put::<1>(out, 0, words[words::SENDER]);
+    put::<1>(out, 1, words[words::SIZE]);
+    put::<2>(out, 2, words[words::RECEIVERS]);
+    put::<4>(out, 4, words[words::PERIOD]);
+    put::<4>(out, 8, words[words::OFFSET]);
+    put::<4>(out, 12, words[words::DEADLINE]);
 }
 
 // A message's seven words, as its record.
@@ -177,12 +130,14 @@ fn write_messages(layout: Layout, part: &[u32], m: usize, out: &mut [u8])
     ensures { Turned (message_bytes layout) 7 (message_size layout) part.now out.old m out.new }
 {
     let size = message_size(layout);
-    let mut j: usize = 0;
-    while j < m {
-        let from = 7 * j;
+    for j in 0..m {
+        let from = words::MESSAGE_WORDS * j;
         let to = size * j;
-        write_message(layout, &part[from..from + 7], &mut out[to..to + size]);
-        j += 1;
+        write_message(
+            layout,
+            &part[from..from + words::MESSAGE_WORDS],
+            &mut out[to..to + size],
+        );
     }
 }
 
@@ -204,7 +159,7 @@ fn write_file(layout: Layout, words: &[u32], k: usize, m: usize, out: &mut [u8])
 }
 
 // A well-formed problem as a file of a version, in front of what the buffer holds, if there is room.
-pub fn lay(layout: Layout, problem: &[u32], file: &mut [u8]) -> Written
+pub fn lay(layout: Layout, problem: &[u32], file: &mut [u8]) -> Result<usize, Refusal>
     requires { WellFormed problem.now }
     ensures { Laying layout problem.now file.old file.new result }
 {
@@ -212,10 +167,10 @@ pub fn lay(layout: Layout, problem: &[u32], file: &mut [u8]) -> Written
     let m = words::messages_of(problem);
     let n = bytes_for(layout, k, m);
     if file.len() < n {
-        return Written::Refused(Refusal::Room);
+        return Err(Refusal::Room);
     }
     write_file(layout, problem, k, m, file);
-    Written::File(n)
+    Ok(n)
 }
 
 // The version that the count of a caller's words tells.
@@ -230,55 +185,39 @@ fn layout_by(words: &[u32], k: usize, m: usize) -> Layout
 }
 
 // What is wrong with the count of a caller's words, or with their header.
-fn count_fault(words: &[u32]) -> Fault
+fn count_fault(words: &[u32]) -> Result<(), Refusal>
     ensures { result ≡ count_fault words.now }
 {
-    if words.len() < words::HEADER_WORDS {
-        return Fault::Bad(Refusal::Length);
-    }
-    let of_header = header_fault(words);
-    let Fault::Clear = of_header else {
-        return of_header;
-    };
+    refuse_if(words.len() < words::HEADER_WORDS, Refusal::Length)?;
+    header_fault(words)?;
     let k = words[words::COLUMNS] as usize;
     let m = words[words::MESSAGES] as usize;
-    if words.len() != said_for(column_words(layout_by(words, k, m)), k, m) {
-        return Fault::Bad(Refusal::Length);
-    }
-    Fault::Clear
+    let said = column_words(layout_by(words, k, m));
+    refuse_if(words.len() != said_for(said, k, m), Refusal::Length)
 }
 
 // The problem that a caller's words are, in the front of a buffer that is large enough for any, or the refusal. Behind their header the words are not tested.
-pub fn problem_in(words: &[u32], problem: &mut [u32]) -> Read
+pub fn problem_in(words: &[u32], problem: &mut [u32]) -> Result<usize, Refusal>
     requires { most_words ≤ length problem.old }
     ensures { Taken words.now problem.new result }
 {
-    let of_count = count_fault(words);
-    if let Fault::Bad(q) = of_count {
-        return Read::Refused(q);
-    }
+    count_fault(words)?;
     let k = words[words::COLUMNS] as usize;
     let m = words[words::MESSAGES] as usize;
     let said = column_words(layout_by(words, k, m));
     recast(words, said, words::COLUMN_WORDS, k, m, problem);
-    Read::Problem(words::message_at(k, m))
+    Ok(words::message_at(k, m))
 }
 
 // Writes a problem's words as a file, of the version that their count tells, into the caller's buffer, which keeps its bytes beyond the file's.
-pub fn write(words: &[u32], file: &mut [u8]) -> Written
+pub fn write(words: &[u32], file: &mut [u8]) -> Result<usize, Refusal>
     ensures { Writing words.now file.old file.new result }
 {
     let mut buffer = [FILL; words::MOST_WORDS];
-    let got = problem_in(words, &mut buffer);
-    let Read::Problem(n) = got else {
-        return Written::Refused(reader::answer::refusal_of(got));
-    };
+    let n = problem_in(words, &mut buffer)?;
     let k = words[words::COLUMNS] as usize;
     let m = words[words::MESSAGES] as usize;
     let problem = &buffer[..n];
-    let fault = words_fault(problem, k, m);
-    if let Fault::Bad(q) = fault {
-        return Written::Refused(q);
-    }
+    words_fault(problem, k, m)?;
     lay(layout_by(words, k, m), problem, file)
 }
