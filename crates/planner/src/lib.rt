@@ -112,9 +112,9 @@ fn plan_around(p: &[u32], taken: &[u32; words::MOST_ROWS]) -> Option<[u32; PLAN_
     requires { Few p.now }
     ensures { Searched (Suiting p.now taken.now) (messages p.now) 0 unplanned result }
 {
-    let mut table = [basics::FILL; places::TABLE_WORDS];
-    places::allowed(p, taken, &mut table);
     let problem = Plannable::of(p);
+    let mut table = [basics::FILL; places::TABLE_WORDS];
+    places::allowed(&problem, taken, &mut table);
     let mut prices = [prices::FIRST_PRICE; prices::CELLS];
     search(&problem, &table, &mut prices, [0u32; PLAN_WORDS], None, 0)
 }

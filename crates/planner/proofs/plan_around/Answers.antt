@@ -3,4 +3,4 @@ use Rattle.planner.proofs.Room.{searched-around}
 use Rattle.planner.proofs.plan_around.Goals as goal
 
 pub returns : goal.returns
-returns c = searched-around c.allowed.ensures _ _ c.search.result (rw c.of-problem.ensures at c.search.ensures)
+returns c = searched-around (rw c.of-problem.ensures at c.allowed.ensures) _ _ c.search.result (rw c.of-problem.ensures at c.search.ensures)
