@@ -6,6 +6,7 @@ use native.Mathlib.Omega.{arith}
 use borrow.Author.Tests.{ltb-false}
 use lib.Dec.{ltb}
 use lib.ListN.{length, take, drop, length-append}
+use Rattle.std.specs.Prelude.{Ok, Err, IsErrAnd}
 use Rattle.basics.specs.Runs.{Put}
 use Rattle.basics.specs.Sums.{sum}
 use Rattle.basics.proofs.Runs.{run-same, length_run}
@@ -27,7 +28,6 @@ use Rattle.triggers.proofs.Determined.{lists-one}
 use Rattle.triggers.proofs.NodeLists.{list-for, length-for}
 use Rattle.triggers.proofs.Results.{lists-refused}
 use Rattle.triggers.proofs.Written.{length-entries}
-use Rattle.std.specs.Prelude.{Ok, Err, IsErrAnd}
 
 -- no well-formed problem has lists of more words
 pub size-most : {p : List ℕ} → WellFormed p → size p ≤ most_words

@@ -3,16 +3,16 @@ use Prim.Native.Nat.{ℕ}
 use mathlib.Core.Path.{◌≡◌, refl, subst}
 use mathlib.Core.List.{List, []}
 use lib.ListN.{length}
+use Rattle.std.specs.Prelude.{Ok, Err, IsErrAnd}
 use Rattle.rules.specs.declared.Refusal.{Refusal}
 use Rattle.rules.specs.Paper.{Answers, Answer}
 use Rattle.rules.proofs.Faults.{bad-not-clear, handed}
 use Rattle.rules.proofs.Told.{answers-refused, answers_one}
+use Rattle.rules.specs.Refusal.{Fault}
 use Rattle.proposal.specs.Accepted.{check_fault}
 use Rattle.proposal.proofs.Accepting.{admitted-length}
 use Rattle.triggers.specs.Promise.{ListsAnswered, lists_fault, Listing}
 use Rattle.triggers.proofs.Determined.{lists-one}
-use Rattle.std.specs.Prelude.{Ok, Err, IsErrAnd}
-use Rattle.rules.specs.Refusal.{Fault}
 
 -- ---- the answers, in their order
 pub lists-refused : {fault : Fault} {p w d : List ℕ} (q : Refusal) → fault ≡ Err q → ListsAnswered fault p w d d (Err q)
