@@ -1,6 +1,5 @@
 -- The filled table says what is due, row by row, and that fits where there is room.
-use Rattle.std.proofs.Common.{sym, arith}
-use native.Mathlib.Nat.{mul-le-mul}
+use Rattle.std.proofs.Common.{sym, arith, mul-le-mul}
 use Rattle.rules.specs.Problem.{most_rows}
 use Rattle.bus_log.specs.Span.{most_span}
 use Rattle.bus_log.proofs.Results.{rows_fit, rows_written}

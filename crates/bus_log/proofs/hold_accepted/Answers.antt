@@ -1,7 +1,6 @@
 -- The table tells what is due. A log that differs within the first matrix cycle differs; else what was compared behind it says how far the log is right, and the
 -- answer is the pair behind that, or that the log goes on, or that it is clean.
-use Rattle.std.proofs.Common.{refl, arith}
-use native.Mathlib.Nat.{mul-le-mul}
+use Rattle.std.proofs.Common.{refl, arith, mul-le-mul}
 use Rattle.rules.specs.Problem.{most_rows}
 use Rattle.bus_log.specs.Against.{clean, differs}
 use Rattle.bus_log.proofs.Rest.{first-differs, first-few, all-few, lengths, outcome, answered, handed-on}
