@@ -1,9 +1,9 @@
--- A turn a word, which has a byte at least.
-use Prim.Native.Nat.{◌-◌, ◌≤◌}
+-- Each turn goes on behind a word of the line, which has a byte at least.
+use Rattle.std.proofs.Common.{◌-◌, ◌≤◌}
 use Rattle.sheet.proofs.slips.fields_slip.Given as goal
 
-abbrev pub invariant-loop-at : goal.invariant-loop-at
-invariant-loop-at l = (l.at ≤ l.to) × (l.line ≤ l.at)
+abbrev pub invariant-loop-word : goal.invariant-loop-word
+invariant-loop-word l = (l.line.from ≤ l.at) × (l.at ≤ l.line.to)
 
-abbrev pub decreases-loop-at : goal.decreases-loop-at
-decreases-loop-at l = l.to - l.at
+abbrev pub decreases-loop-word : goal.decreases-loop-word
+decreases-loop-word l = l.line.to - l.at
