@@ -22,45 +22,38 @@ const NO_TEXT: i32 = 84;
 
 // How many arguments the program was started with, its own name among them.
 pub fn arg_count(rt: &impl Env) -> usize {
-    let mut count: usize = 0;
     for i in 0..usize::MAX {
         if let Err(FillError::NotPresent) = rt.arg(i, &mut []) {
-            break;
+            return i;
         }
-        count = i + 1;
     }
-    count
+    usize::MAX
 }
 
 // Puts argument i at the start of a buffer and answers its length; an error where it is missing or longer than the buffer.
 pub fn argument(rt: &impl Env, i: usize, bytes: &mut [u8]) -> Result<usize>
     ensures { ReadsAtMost result bytes.new }
 {
-    match rt.arg(i, bytes) {
-        Ok(n) => Ok(n),
-        Err(FillError::NotPresent) => Err(Error::from_raw_os_error(INVALID)),
-        Err(FillError::TooLong) => Err(Error::from_raw_os_error(TOO_LONG)),
-    }
+    rt.arg(i, bytes).map_err(|e| {
+        Error::from_raw_os_error(match e {
+            FillError::NotPresent => INVALID,
+            FillError::TooLong => TOO_LONG,
+        })
+    })
 }
 
-// The same, and 0 where it is missing or longer than the buffer.
+// The same, and 0 where it is missing or longer than the buffer: to the programs that is an empty argument, and no other.
 pub fn arg(rt: &impl Env, i: usize, bytes: &mut [u8]) -> usize
     ensures { IsPrefixLen result bytes.new }
 {
-    match argument(rt, i, bytes) {
-        Ok(n) => n,
-        Err(_) => 0,
-    }
+    argument(rt, i, bytes).unwrap_or(0)
 }
 
 // ---- files
 
 // The name of a file as text. The library takes no other name.
 fn path(name: &[u8]) -> Result<&str> {
-    match str::from_utf8(name) {
-        Ok(path) => Ok(path),
-        Err(_) => Err(Error::from_raw_os_error(NO_TEXT)),
-    }
+    str::from_utf8(name).map_err(|_| Error::from_raw_os_error(NO_TEXT))
 }
 
 // Opens the file of this name for reading.
@@ -79,19 +72,15 @@ pub fn read_full<F: Read>(file: &mut F, bytes: &mut [u8]) -> usize
 {
     let mut done: usize = 0;
     while done < bytes.len() {
-        let n = match file.read(&mut bytes[done..]) {
-            Ok(n) => n,
-            Err(_) => 0,
-        };
-        if n == 0 {
-            break;
+        match file.read(&mut bytes[done..]) {
+            Ok(n) if 0 < n => done += n,
+            _ => break,
         }
-        done += n;
     }
     done
 }
 
-// Writes all bytes, or stops at the first write that takes nothing or fails.
+// Writes all bytes, or stops at the first write that takes nothing or fails. The library's own goes on after a signal and has another sentence for nothing taken.
 pub fn write_all<F: Write>(file: &mut F, bytes: &[u8]) -> Result<()> {
     let mut done: usize = 0;
     while done < bytes.len() {

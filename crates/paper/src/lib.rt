@@ -1,4 +1,5 @@
 // Printing for the programs: text, numbers, and columns of numbers on standard output; what is said besides on standard error.
+// It stands on crate io and not on print!, which asks for the runtime: each function of the programs that prints would have to hand it on.
 #![tactic(auto)]
 
 ghost use Rattle.std.specs.Prelude.{◌≡◌, length};
@@ -9,17 +10,70 @@ const IDENTIFIER_DIGITS: usize = 3;
 // The mark of a problem is shown with so many.
 const MARK_DIGITS: usize = 8;
 
+// ---- the two streams
+
+// The system's numbers of them.
+const OUTPUT: i32 = 1;
+
+const ERROR: i32 = 2;
+
+// Where text goes: to standard output, or to standard error what is said besides.
+#[derive(Clone, Copy)]
+enum Stream {
+    Output,
+    Error,
+}
+
+impl Stream {
+    // Writes bytes as they stand. If output cannot be written, that is said; if that cannot, there is nobody to tell.
+    fn text(self, s: &[u8]) {
+        match self {
+            Stream::Output => {
+                if !io::write_all(OUTPUT, s) {
+                    io::write_all(ERROR, b"unwritten\n");
+                }
+            }
+            Stream::Error => {
+                io::write_all(ERROR, s);
+            }
+        }
+    }
+
+    // Writes a number in decimal.
+    fn decimal(self, n: u64) {
+        let mut digits = [0u8; 20];
+        let k = io::decimal(n, &mut digits);
+        self.text(&digits[..k]);
+    }
+
+    // Writes a number in hexadecimal, with so many digits at least.
+    fn hex(self, n: u64, least: usize) {
+        let mut digits = [0u8; 16];
+        let k = io::hex(n, least, &mut digits);
+        self.text(&digits[..k]);
+    }
+
+    // Writes so many things, of this name.
+    fn things(self, n: usize, one: &[u8]) {
+        self.decimal(n as u64);
+        self.text(one);
+        if n != 1 {
+            self.text(b"s");
+        }
+    }
+}
+
 // ---- standard error
 
 // Writes text.
 pub fn say(s: &[u8]) {
-    io::write_all(2, s);
+    Stream::Error.text(s);
 }
 
 // Writes text, and a count or a number behind it.
 pub fn say_count(s: &[u8], n: usize) {
     say(s);
-    io::print_decimal(2, n as u64);
+    Stream::Error.decimal(n as u64);
 }
 
 pub fn say_number(s: &[u8], n: u32) {
@@ -30,22 +84,19 @@ pub fn say_number(s: &[u8], n: u32) {
 pub fn say_hex(s: &[u8], n: usize) {
     say(s);
     say(b"0x");
-    io::print_hex(2, n as u64, IDENTIFIER_DIGITS);
+    Stream::Error.hex(n as u64, IDENTIFIER_DIGITS);
 }
 
 // Writes text, and the mark of a problem behind it.
 pub fn say_mark(s: &[u8], mark: u32) {
     say(s);
-    io::print_hex(2, mark as u64, MARK_DIGITS);
+    Stream::Error.hex(u64::from(mark), MARK_DIGITS);
 }
 
 // Writes text, and so many things of this name behind it.
 pub fn say_things(s: &[u8], n: usize, one: &[u8]) {
-    say_count(s, n);
-    say(one);
-    if n != 1 {
-        say(b"s");
-    }
+    say(s);
+    Stream::Error.things(n, one);
 }
 
 // Writes text, and hundredths of a per cent behind it, as per cent with two decimals.
@@ -58,10 +109,7 @@ pub fn say_per_cent(s: &[u8], hundredths: usize) {
 
 // Writes bytes as they stand. If they cannot be written, that is said.
 pub fn text(s: &[u8]) {
-    let is_written = io::write_all(1, s);
-    if !is_written {
-        say(b"unwritten\n");
-    }
+    Stream::Output.text(s);
 }
 
 pub fn end_line() {
@@ -81,9 +129,7 @@ pub fn number(n: u32) {
 
 // Writes a count in decimal.
 pub fn count(n: usize) {
-    let mut digits = [0u8; 20];
-    let k = io::decimal(n as u64, &mut digits);
-    text(&digits[..k]);
+    Stream::Output.decimal(n as u64);
 }
 
 // Writes text, and a count or a number behind it.
@@ -99,19 +145,13 @@ pub fn text_number(s: &[u8], n: u32) {
 
 // Writes so many things, of this name.
 pub fn things(n: usize, one: &[u8]) {
-    count(n);
-    text(one);
-    if n != 1 {
-        text(b"s");
-    }
+    Stream::Output.things(n, one);
 }
 
 // Writes so many spaces.
 pub fn spaces(n: usize) {
-    let mut i: usize = 0;
-    while i < n {
+    for _ in 0..n {
         text(b" ");
-        i += 1;
     }
 }
 
@@ -175,32 +215,23 @@ pub fn hundredths(n: usize) {
 
 // Writes text, and the mark of a problem behind it.
 pub fn text_mark(s: &[u8], mark: u32) {
-    let mut digits = [0u8; 16];
-    let k = io::hex(mark as u64, MARK_DIGITS, &mut digits);
     text(s);
-    text(&digits[..k]);
-}
-
-// What is left of so many characters behind 0x.
-fn behind_prefix(columns: usize) -> usize {
-    if columns < 2 { 0 } else { columns - 2 }
+    Stream::Output.hex(u64::from(mark), MARK_DIGITS);
 }
 
 // Writes an identifier in hexadecimal, so that it ends a column of so many characters.
 pub fn right_hex(n: usize, columns: usize) {
     let mut digits = [0u8; 16];
     let k = io::hex(n as u64, IDENTIFIER_DIGITS, &mut digits);
-    pad(k, behind_prefix(columns));
+    pad(k, columns.saturating_sub(2));
     text(b"0x");
     text(&digits[..k]);
 }
 
 // Writes text, and the hexadecimal digits of an identifier behind it.
 pub fn text_digits(s: &[u8], n: usize) {
-    let mut digits = [0u8; 16];
-    let k = io::hex(n as u64, IDENTIFIER_DIGITS, &mut digits);
     text(s);
-    text(&digits[..k]);
+    Stream::Output.hex(n as u64, IDENTIFIER_DIGITS);
 }
 
 // Writes text, and an identifier behind it.
@@ -218,19 +249,22 @@ fn word(n: u32, is_identifier: bool) {
     }
 }
 
-// Writes words with a space between them; the one at this place is an identifier.
-pub fn record(w: &[u32], identifier: usize) {
-    let mut i: usize = 0;
-    while i < w.len() {
+// Writes words with a space between them; one of them may be an identifier.
+fn row(w: &[u32], identifier: Option<usize>) {
+    for (i, n) in w.iter().enumerate() {
         if 0 < i {
             text(b" ");
         }
-        word(w[i], i == identifier);
-        i += 1;
+        word(*n, identifier == Some(i));
     }
+}
+
+// Writes words with a space between them; the one at this place is an identifier.
+pub fn record(w: &[u32], identifier: usize) {
+    row(w, Some(identifier));
 }
 
 // Writes words with a space between them, all of them in decimal.
 pub fn words(w: &[u32]) {
-    record(w, w.len());
+    row(w, None);
 }

@@ -6,11 +6,10 @@ use mathlib.Core.Bool.{Bool, true, false, not}
 use mathlib.Core.List.{List, ◌++◌}
 use native.Mathlib.Nat.{le_antisymm}
 use native.Mathlib.Omega.{arith}
-use lib.ListN.{length, get_or, drop, length-append, length-drop, get_or-append}
-use lib.Seq.{get_or-append-add, get_or-drop}
+use lib.ListN.{length, get_or, drop}
 use lib.Dec.{eqb, ltb, leb}
-use borrow.Author.Tests.{eq-eqb, ne_eqb, eqb-true, eqb-false, ltb-true, ltb-false, leb-true, leb-false, not-true, not-false}
-use Rattle.basics.proofs.Sums.{sum_same}
+use borrow.Author.Tests.{eqb-true, eqb-false, ltb-true, ltb-false, leb-true, leb-false, not-true, not-false}
+use Rattle.basics.proofs.Tests.{not-both}
 use Rattle.basics.specs.Runs.{tab}
 use Rattle.rules.specs.declared.Refusal.{Refusal}
 use Rattle.rules.specs.declared.Refusal.TheVariants.{Endless}
@@ -19,15 +18,16 @@ use Rattle.rules.proofs.Faults.{clear-guard, clear_first, first-same}
 use Rattle.response.specs.declared.times.Worst.{Worst}
 use Rattle.response.specs.Events.{longest_period, count, period, jitter, deadline, Sound, events_fault}
 use Rattle.response.specs.Times.{takes, blocking, arrivals, demand, load, longest_busy, endless, Response, Written}
-use Rattle.response.specs.Promise.{endless_fault, miss, zeros, TimesWritten, Responding}
-use Rattle.response.specs.Parts.{Member, Span, BusyOr0, busy, none, Ready, Worse, kept, longer, Sought}
+use Rattle.response.specs.Promise.{endless_fault, zeros, TimesWritten, Responding}
+use Rattle.response.specs.Parts.{Member, Span, BusyOrNone, Ready, Worse, kept, longer, Sought}
 use Rattle.response.proofs.Faults.{clear-sound, ready-clear, call-rest}
 use Rattle.response.proofs.Figures.{member}
+use Rattle.response.proofs.Filling.{times-all, zeros-all}
 use Rattle.response.proofs.Turns.{left}
-use Rattle.response.proofs.Spans.{Spanning, spanning-start, spanning-next, spanning-falls, spanning-found, spanning-none, span-ends, found_some}
+use Rattle.response.proofs.Spans.{Spanning, spanning-start, spanning-next, spanning-falls, spanning-found, spanning-none, span-ends}
 use Rattle.response.proofs.Waiting.{Timing, Waiting, Found, waiting-start, waiting-next, waiting-later, next-falls, later-falls, instance-here, found-start, found-more, found-above, found_all, sought-met, sought-missed, sought-worst}
 use Rattle.response.proofs.Results.{responding-done, responding-refused}
-use Rattle.std.specs.Prelude.{Err, Ok}
+use Rattle.std.specs.Prelude.{Err, Ok, Option, None, Some, is_some, unwrap_or}
 
 -- what a test chooses has a property that it has either way
 chosen : {A : Type 0} (P : A → Type 0) (b : Bool) {x y : A} → (b ≡ true → P x) → (b ≡ false → P y) → P (elim b [ true ↦ x | false ↦ y ])
@@ -39,31 +39,43 @@ fewer : {a b n : ℕ} → a < b → b < suc n → a < n
 fewer h k = omega arith
 
 -- ---- the busy period of event i
--- from a t that it lasts at least, found in n turns; 0 if there is none
-unfoldable pub climb : List ℕ → ℕ → ℕ → ℕ → ℕ
-climb e i zero t = 0
+-- from a t that it lasts at least, found in n turns, if there is one
+unfoldable pub climb : List ℕ → ℕ → ℕ → ℕ → Option ℕ
+climb e i zero t = None
 climb e i (suc n) t =
     elim (ltb longest_busy t) [
-      | true ↦ 0
-      | false ↦ elim (eqb (load e i t) t) [ true ↦ t | false ↦ climb e i n (load e i t) ]
+      | true ↦ None
+      | false ↦ elim (eqb (load e i t) t) [ true ↦ Some t | false ↦ climb e i n (load e i t) ]
     ]
 
+abbrev pub climbed : List ℕ → ℕ → Option ℕ
+climbed e i = climb e i (left 1 + 1) 1
+
+-- its length, of an event that has one
 unfoldable pub span : List ℕ → ℕ → ℕ
-span e i = climb e i (left 1 + 1) 1
+span e i = unwrap_or (climbed e i) 0
 
 module _ {e : List ℕ} {i : ℕ} where
-  climb-found : (n t : ℕ) → Spanning e i (blocking e i) (takes e i) t → left t < n → BusyOr0 e i (climb e i n t)
+  climb-found : (n t : ℕ) → Spanning e i (blocking e i) (takes e i) t → left t < n → BusyOrNone e i (climb e i n t)
   unfolding climb
   climb-found zero t s h = absurd (omega arith)
   climb-found (suc n) t s h =
-      chosen (BusyOr0 e i) (ltb longest_busy t) (λ above. spanning-none s (ltb-true _ _ above)) λ below.
+      chosen (BusyOrNone e i) (ltb longest_busy t) (λ above. spanning-none s (ltb-true _ _ above)) λ below.
       let l = ltb-false _ _ below in
-      chosen (BusyOr0 e i) (eqb (load e i t) t) (λ again. spanning-found s refl refl l (eqb-true _ _ again)) λ other.
+      chosen (BusyOrNone e i) (eqb (load e i t) t) (λ again. spanning-found s refl refl l (eqb-true _ _ again)) λ other.
       climb-found n (load e i t) (spanning-next s refl refl) (fewer (spanning-falls s refl refl l (eqb-false _ _ other)) h)
 
-  span-found : Member e i → BusyOr0 e i (span e i)
-  unfolding span
-  span-found m = climb-found (left 1 + 1) 1 (spanning-start m refl refl refl) (omega arith)
+  climbed-found : Member e i → BusyOrNone e i (climbed e i)
+  climbed-found m = climb-found (left 1 + 1) 1 (spanning-start m refl refl refl) (omega arith)
+
+-- what the search finds is there exactly where the event has a busy period
+none_is : (e : List ℕ) (i : ℕ) (r : Option ℕ) → BusyOrNone e i r → not (is_some r) ≡ endless e i
+none_is e i None q = sym q
+none_is e i (Some t) s = sym (span-ends s)
+
+some_is : (e : List ℕ) (i : ℕ) (r : Option ℕ) → BusyOrNone e i r → not (is_some r) ≡ false → Span e i (unwrap_or r 0)
+some_is e i None q h = not-both refl h
+some_is e i (Some t) s h = s
 
 -- ---- its longest response, or the first above the limit
 -- x, or instance q with the response v where that is longer
@@ -139,20 +151,16 @@ time-written {e} {i} m s =
 
 -- ---- the first event for which no busy period is found
 unfoldable pub spans_fault : List ℕ → Fault
-spans_fault e = first_fault (count e) (λ j. guard (eqb (span e j) 0) (Endless j))
-
-none_is : {e : List ℕ} {i r : ℕ} → BusyOr0 e i r → eqb r 0 ≡ endless e i
-none_is {r = r} (busy s) = ne_eqb r 0 (λ z. omega (arith, s.busy.from)) ∙ sym (span-ends s)
-none_is {r = r} (none q z) = eq-eqb r 0 z ∙ sym q
+spans_fault e = first_fault (count e) (λ j. guard (not (is_some (climbed e j))) (Endless j))
 
 module _ (e : List ℕ) (sound : Sound e) where
   spans-fault : spans_fault e ≡ first_fault (count e) (endless_fault e)
   unfolding spans_fault
-  spans-fault = first-same (count e) _ _ (λ j l. ap (λ (b : Bool). guard b (Endless j)) (none_is (span-found (member sound l))))
+  spans-fault = first-same (count e) _ _ (λ j l. ap (λ (b : Bool). guard b (Endless j)) (none_is e j (climbed e j) (climbed-found (member sound l))))
 
   span-clear : spans_fault e ≡ Ok tt → (i : ℕ) → i < count e → Span e i (span e i)
-  unfolding spans_fault
-  span-clear h i l = found_some (eqb-false _ _ (clear-guard _ _ (clear_first (count e) _ h i l))) (span-found (member sound l))
+  unfolding spans_fault span
+  span-clear h i l = some_is e i (climbed e i) (climbed-found (member sound l)) (clear-guard _ _ (clear_first (count e) _ h i l))
 
 -- ---- the laws of the call
 -- the longest response of event i, and the instance that has it: none is above the longest busy period and period together
@@ -193,31 +201,15 @@ module _ (e d : List ℕ) (room : count e ≤ length d) where
   unfolding times
   long = length-tab (time e) (count e)
 
-  front : (i : ℕ) → i < count e → get_or (times e ++ drop (count e) d) i 0 ≡ get_or (times e) i 0
-  front i l = get_or-append (times e) (drop (count e) d) 0 i (let q = long in omega arith)
-
   at : (i : ℕ) → i < count e → get_or (times e) i 0 ≡ time e i
   unfolding times
   at i l = get_or-tab (time e) (count e) i l
 
-  behind : (i : ℕ) → count e ≤ i → get_or (times e ++ drop (count e) d) i 0 ≡ get_or d i 0
-  behind i l =
-      let k : length (times e) + (i - count e) ≡ i = let q = long in omega arith in
-      let m : count e + (i - count e) ≡ i = omega arith in
-      ap (λ (n : ℕ). get_or (times e ++ drop (count e) d) n 0) (sym k)
-      ∙ get_or-append-add (times e) (drop (count e) d) (i - count e) 0
-      ∙ get_or-drop (count e) d (i - count e) 0
-      ∙ ap (λ (n : ℕ). get_or d n 0) m
-
   written : Sound e → spans_fault e ≡ Ok tt → TimesWritten e d (times e ++ drop (count e) d) (count e)
-  written s h = record {
-    as_long = let q = long in length-append (times e) (drop (count e) d) ∙ rw (long, length-drop) (omega arith);
-    each = λ i l. subst (λ (t : ℕ). Written e i t) (sym (front i l ∙ at i l)) (time-written (member s l) (span-clear e s h i l));
-    kept = behind;
-  }
+  written s h = times-all d (times e) (count e) room long (λ i l. subst (λ (t : ℕ). Written e i t) (sym (at i l)) (time-written (member s l) (span-clear e s h i l)))
 
   counted : zeros (times e) (count e) ≡ zeros (times e ++ drop (count e) d) (count e)
-  counted = sum_same (count e) _ _ (λ i l. ap miss (sym (front i l)))
+  counted = sym (zeros-all d (times e) (count e) room long)
 
   pub computed :
       {x : List ℕ} {m : ℕ} → events_fault e ≡ Ok tt → spans_fault e ≡ Ok tt → times e ++ drop (count e) d ≡ x → zeros (times e) (count e) ≡ m →

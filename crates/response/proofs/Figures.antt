@@ -1,31 +1,19 @@
--- Figures: where they count, how large they become, and the sum and the largest of them, one more at each turn of a loop.
+-- Figures: how large they become, and the sum and the largest of them, one more at each turn of a loop.
 use Prim.Native.Nat.{ℕ, ◌+◌, ◌*◌, ◌<◌, ◌≤◌, max}
-use mathlib.Core.Path.{◌≡◌, refl, sym, ap, ap₂, ◌∙◌}
-use mathlib.Core.Bool.{Bool, true, false}
+use mathlib.Core.Path.{◌≡◌, refl, sym, ap₂, ◌∙◌}
 use mathlib.Core.List.{List}
 use native.Mathlib.Nat.{mul-le-mul, max-le}
 use native.Mathlib.Omega.{arith}
-use Rattle.basics.specs.Sums.{sum, largest, only}
+use Rattle.basics.specs.Sums.{sum, largest}
 use Rattle.basics.proofs.Sums.{sum-next, largest-next}
 use Rattle.response.specs.Events.{count, Sound}
 use Rattle.response.specs.Times.{ceiling}
-use Rattle.response.specs.Parts.{Member, Figure, shortest_frame, longest_frame, most_arrivals, most_interference}
+use Rattle.response.specs.Parts.{Member, Figure}
 use Rattle.response.proofs.Queue.{ceiling-least}
 
 pub member : {e : List ℕ} {j : ℕ} → Sound e → j < count e → Member e j
 member {e} {j} s l = record { sound = s; below = l; rules = s.rules j l }
 
--- ---- a figure that counts only where a test holds
-pub figure-taken : {t : Bool} {x lo hi r : ℕ} → t ≡ true → Figure x lo hi r → Figure (only t x) 0 hi r
-figure-taken h f = record { is = rw h f.is; least = omega arith; most = f.most }
-
-pub figure-one : {t : Bool} → t ≡ true → Figure (only t 1) 0 1 1
-figure-one h = figure-taken {lo = 1} h (record { is = refl; least = omega arith; most = omega arith })
-
-pub figure-left : {t : Bool} (x hi : ℕ) → t ≡ false → Figure (only t x) 0 hi 0
-figure-left x hi h = record { is = rw h; least = omega arith; most = omega arith }
-
--- ---- the interference of one event
 -- a / b, rounded up, is at most a
 pub ceiling-figure : {a b hi r : ℕ} → r ≡ ceiling a b → a ≤ hi → 1 ≤ b → Figure (ceiling a b) 0 hi r
 ceiling-figure {a} {b} q h k = record {
@@ -33,16 +21,6 @@ ceiling-figure {a} {b} q h k = record {
   least = omega arith;
   most = omega (arith, ceiling-least a b a k (omega (arith, mul-le-mul {n₁ = a} {m₁ = 1} {n₂ = a} {m₂ = b} (omega arith) k)));
 }
-
--- with the jitter and the period as they were read
-pub arrivals-figure : (span : ℕ) {hi j p j₀ p₀ r : ℕ} → j ≡ j₀ → p ≡ p₀ → Figure (ceiling (span + j) p) 0 hi r → Figure (ceiling (span + j₀) p₀) 0 hi r
-arrivals-figure span a b f = rw (← a, ← b) f
-
-pub product-most : {a b : ℕ} → a ≤ longest_frame → b ≤ most_arrivals → a * b ≤ most_interference
-product-most h k = mul-le-mul {n₂ = longest_frame} {m₂ = most_arrivals} h k
-
-pub product-figure : {x y a b : ℕ} → Figure x shortest_frame longest_frame a → Figure y 0 most_arrivals b → Figure (x * y) 0 most_interference (a * b)
-product-figure f g = record { is = ap₂ ◌*◌ f.is g.is; least = omega arith; most = product-most f.most g.most }
 
 -- ---- the sum and the largest
 -- t is g of the first n of f, their sum or the largest of them, and at most hi
@@ -65,11 +43,3 @@ module _ {f : ℕ → ℕ} where
 
     pub largest-more : {r : ℕ} → Gathered largest f n b t → Figure (f n) 0 b x → r ≡ max t x → Gathered largest f (n + 1) b r
     largest-more s d q = record { is = q ∙ ap₂ max s.is d.is ∙ sym (largest-next n f); most = rw q (max-le s.most d.most) }
-
--- at the loop's end
-module _ {g : ℕ → (ℕ → ℕ) → ℕ} {f : ℕ → ℕ} {n hi t : ℕ} (s : Gathered g f n hi t) {k : ℕ} (q : n ≡ k) where
-  pub gathered-end : t ≡ g k f
-  gathered-end = s.is ∙ ap (λ (m : ℕ). g m f) q
-
-  pub gathered-all : {top : ℕ} → hi ≤ top → Figure (g k f) 0 top t
-  gathered-all h = record { is = gathered-end; least = omega arith; most = omega (arith, s.most) }

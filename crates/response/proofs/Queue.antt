@@ -3,8 +3,10 @@ use Prim.Native.Nat.{ℕ, zero, suc, ◌+◌, ◌*◌, ◌-◌, ◌/◌, ◌<◌
 use mathlib.Core.Path.{◌≡◌, refl, subst}
 use mathlib.Core.Bool.{Bool, true, false}
 use mathlib.Core.List.{List}
-use native.Mathlib.Nat.{div-lt_iff_lt-mul, le-div_iff_mul-le, div-zero, div-mul-le_self}
+use native.Mathlib.Nat.{le_antisymm, div-lt_iff_lt-mul, le-div_iff_mul-le, div-zero, div-mul-le_self}
 use native.Mathlib.Omega.{arith}
+use Rattle.std.specs.Int.{div_ceil}
+use Rattle.std.proofs.lemmas.Grind.{div_ceil_times}
 use Rattle.basics.specs.Sums.{only}
 use Rattle.basics.proofs.Fixed.{NeverFalls}
 use Rattle.basics.proofs.Sums.{sum-zero}
@@ -28,6 +30,12 @@ below-ceiling a b k h l =
 
 pub ceiling-some : (a b : ℕ) → 1 ≤ a → 1 ≤ b → 1 ≤ ceiling a b
 ceiling-some a b h k = (le-div_iff_mul-le {k = b} {x = 1} {y = a + (b - 1)} k).1 (omega arith)
+
+-- the library's quotient, which is one more where something is left, is the same
+pub rounded-up : (a b : ℕ) → 1 ≤ b → div_ceil a b ≡ ceiling a b
+rounded-up a b h =
+    let p = div_ceil_times a b h in
+    le_antisymm ((le-div_iff_mul-le {k = b} {x = div_ceil a b} {y = a + (b - 1)} h).1 (omega arith)) (ceiling-least a b (div_ceil a b) h p.0)
 
 -- ---- in a longer span
 div-rises : (k x y : ℕ) → x ≤ y → x / k ≤ y / k

@@ -7,9 +7,9 @@ use native.Mathlib.Omega.{arith}
 use lib.ListN.{length, get_or}
 use lib.Seq.{ext_get_or}
 use Rattle.rules.specs.declared.Refusal.{Refusal}
-use Rattle.rules.specs.Paper.{figure_for, Answer, count_of, paper}
+use Rattle.rules.specs.Paper.{figure_for, Answer}
 use Rattle.rules.specs.declared.Paper.{Paper}
-use Rattle.rules.proofs.Told.{Told, answered, refusing, told-one, done-clear}
+use Rattle.rules.proofs.Told.{told, told-one, done-clear}
 use Rattle.response.specs.Events.{count}
 use Rattle.response.specs.Times.{Written, met, missed}
 use Rattle.response.specs.Promise.{call_fault, zeros, TimesWritten, Responding}
@@ -50,10 +50,6 @@ module _ {e d x y : List ℕ} {n : ℕ} (a : TimesWritten e d x n) (b : TimesWri
 
   pub times-one : x ≡ y
   times-one = ext_get_or 0 x y (a.as_long ∙ sym b.as_long) (λ i l. word-one i)
-
-told : (r : Answer) → Told Ok Err r (paper r) (count_of r)
-told (Ok m) = answered m
-told (Err q) = refusing q 0
 
 -- two results that the promise allows are equal
 pub responding-one : {e d x y : List ℕ} {r s : Answer} → Responding e d x r → Responding e d y s → (r ≡ s) × (x ≡ y)

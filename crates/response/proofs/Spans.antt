@@ -9,11 +9,11 @@ use native.Mathlib.Omega.{arith}
 use lib.Dec.{eqb}
 use lib.ListN.{length, get_or, set}
 use lib.Seq.{get_or-set_same, get_or-set_other}
-use borrow.Author.Count.{below_none, below_more}
+use borrow.Author.Count.{below_more}
 use borrow.Author.Tests.{eq-eqb, ne_eqb, eqb-true, not-false}
 use Rattle.basics.proofs.Fixed.{Under, under-start, under_next, under-least, under-below, least-exists, least-is-under}
 use Rattle.basics.proofs.Steps.{stays, rises}
-use Rattle.basics.proofs.Tests.{some_at, some-on, some-off, not-both}
+use Rattle.basics.proofs.Tests.{some_at, some-on, some-off}
 use Rattle.rules.specs.declared.Refusal.{Refusal}
 use Rattle.rules.specs.declared.Refusal.TheVariants.{Endless}
 use Rattle.rules.specs.Refusal.{◌⊕◌, first_fault, Fault}
@@ -22,7 +22,7 @@ use Rattle.rules.proofs.Faults.{first-at, bad-not-clear, clear_both}
 use Rattle.response.specs.Events.{count, period, jitter, events_fault}
 use Rattle.response.specs.Times.{takes, blocking, arrivals, demand, load, Busy, longest_busy, endless}
 use Rattle.response.specs.Promise.{endless_fault, call_fault}
-use Rattle.response.specs.Parts.{Member, Span, Spans, BusyOr0, busy, none, Noted, shortest_frame}
+use Rattle.response.specs.Parts.{Member, Span, Spans, Noted, shortest_frame}
 use Rattle.response.proofs.Faults.{endless-bad, endless-clear, ended-clear, call-rest}
 use Rattle.response.proofs.Queue.{ceiling-some, load_step, load-rises}
 use Rattle.response.proofs.Turns.{left, left-falls, left-first}
@@ -89,14 +89,14 @@ module _ {e : List ℕ} {i blocked frame : ℕ} where
     pub spanning-falls : t ≤ longest_busy → ¬ (blocked + (frame * count + more) ≡ t) → left (blocked + (frame * count + more)) < left t
     spanning-falls l h = rw next-is (falls s.member l (λ q. h (next-is ∙ q)) s.begun)
 
-    pub spanning-found : t ≤ longest_busy → blocked + (frame * count + more) ≡ t → BusyOr0 e i t
-    spanning-found l h = busy (record { busy = under-least s.under (sym next-is ∙ h); most = l })
+    pub spanning-found : t ≤ longest_busy → blocked + (frame * count + more) ≡ t → Span e i t
+    spanning-found l h = record { busy = under-least s.under (sym next-is ∙ h); most = l }
 
-  pub spanning-none : {t : ℕ} → Spanning e i blocked frame t → longest_busy < t → BusyOr0 e i 0
+  pub spanning-none : {t : ℕ} → Spanning e i blocked frame t → longest_busy < t → endless e i ≡ true
   unfolding endless
   spanning-none {t} s h =
-      none (rw (some-off longest_busy (λ v. eqb (v + 1) (load e i (v + 1)))
-      (λ k l. ne_eqb (k + 1) (load e i (k + 1)) (λ q. omega (arith, under-below s.under (k + 1) (omega arith) q))))) refl
+      rw (some-off longest_busy (λ v. eqb (v + 1) (load e i (v + 1)))
+      (λ k l. ne_eqb (k + 1) (load e i (k + 1)) (λ q. omega (arith, under-below s.under (k + 1) (omega arith) q))))
 
 -- ---- what the test says
 module _ {e : List ℕ} {i : ℕ} where
@@ -116,22 +116,7 @@ module _ {e : List ℕ} {i : ℕ} where
       let b : x.0 ≤ k.0 + 1 = x.2 in
       (x.0, record { busy = x.1; most = omega arith })
 
-  pub found-span : {r t : ℕ} → endless e i ≡ false → BusyOr0 e i r → t ≡ r → Span e i t
-  found-span h (busy s) q = rw q s
-  found-span h (none n z) q = not-both n h
-
-  pub found_some : {r : ℕ} → ¬ (r ≡ 0) → BusyOr0 e i r → Span e i r
-  found_some h (busy s) = s
-  found_some h (none q z) = absurd (h z)
-
-  pub found_none : {r : ℕ} → r ≡ 0 → BusyOr0 e i r → endless e i ≡ true
-  found_none h (busy s) = absurd (let f = s.busy.from in omega arith)
-  found_none h (none q z) = q
-
 -- ---- the busy periods as they are noted, event by event
-pub spans-none : (e s : List ℕ) → Spans e s 0
-spans-none e s = record { each = below_none _ }
-
 pub spans-more : {e s : List ℕ} {n t : ℕ} → Spans e s n → n < length s → Span e n t → Spans e (set s n t) (n + 1)
 spans-more {e} {s} {n} {t} f room here = record {
   each =
@@ -139,9 +124,6 @@ spans-more {e} {s} {n} {t} f room here = record {
       (λ i l. subst (λ (v : ℕ). Span e i v) (sym (get_or-set_other s n i t 0 (λ q. omega arith))) (f.each i l))
       (subst (λ (v : ℕ). Span e n v) (sym (get_or-set_same s n t 0 room)) here);
 }
-
-pub span-at : {e s : List ℕ} {n i t : ℕ} → Spans e s n → i < n → t ≡ get_or s i 0 → Span e i t
-span-at f l q = rw q (f.each _ l)
 
 pub noted-bad : {e s : List ℕ} {x : Fault} {q : Refusal} → Err q ≡ x → Noted e s x (Err q)
 noted-bad h = record { fault-is = h; spans = λ z. bad-not-clear z refl }

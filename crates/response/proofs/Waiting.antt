@@ -3,17 +3,14 @@
 use Prim.Native.Nat.{ℕ, ◌+◌, ◌*◌, ◌-◌, ◌<◌, ◌≤◌}
 use mathlib.Core.Path.{◌≡◌, refl, sym, ap₂, ◌∙◌}
 use mathlib.Core.List.{List}
-use native.Mathlib.Nat.{mul-le-mul}
 use native.Mathlib.Omega.{arith}
-use mir.Val.{Fits}
-use mir.Syntax.{w64}
 use Rattle.basics.proofs.Fixed.{Under, under-from, under_next, under-least, least-is-under}
 use Rattle.basics.proofs.Steps.{Step, stays, rises}
 use Rattle.response.specs.declared.times.Worst.{Worst}
 use Rattle.response.specs.Events.{longest_period, period, jitter, deadline}
 use Rattle.response.specs.Times.{takes, blocking, arrivals, demand, longest_busy, queue, Queued, Instance, Longest, Response, Written, met, missed}
-use Rattle.response.specs.Parts.{Member, Span, Worse, kept, longer, Sought, shortest_frame, most_demand}
-use Rattle.response.proofs.Queue.{below-ceiling, demand-step, demand-some, queue-rises}
+use Rattle.response.specs.Parts.{Member, Span, Worse, kept, longer, Sought, shortest_frame}
+use Rattle.response.proofs.Queue.{demand-step, demand-some, queue-rises}
 use Rattle.response.proofs.Instances.{waits-within, released, under-later, longest-first, longest-kept, longest-next, response-exists}
 use Rattle.response.proofs.Spans.{arrives}
 use Rattle.response.proofs.Turns.{left, left-falls}
@@ -73,37 +70,6 @@ found_within (so_far z y m) = m
 
 -- ---- a turn
 module _ {e : List ℕ} {i t frame per own count : ℕ} (fixed : Timing e i t frame per own count) where
-  -- no number of the code becomes too large
-  module _ {q ahead release w : ℕ} (s : Waiting e i t q ahead release w) where
-    pub wait-most : w ≤ longest_busy
-    wait-most = omega (arith, s.most, fixed.span.most)
-
-    pub next_fits : {more : ℕ} → more ≤ most_demand → Fits w64 (ahead + more)
-    next_fits h = omega (arith, s.least, wait-most)
-
-    pub response-fits : Fits w64 (own + w)
-    response-fits = omega (arith, fixed.own_is, fixed.member.rules, wait-most)
-
-    pub ahead-fits : Fits w64 (ahead + frame)
-    ahead-fits = omega (arith, fixed.frame_is, fixed.member.rules, s.least, wait-most)
-
-    pub later-fits : Fits w64 (w + frame)
-    later-fits = omega (arith, fixed.frame_is, fixed.member.rules, wait-most)
-
-    -- an instance is released before the busy period ends
-    module _ (l : q < count) where
-      release-most : release < t + jitter e i
-      release-most =
-          omega (arith, s.release-is, below-ceiling (t + jitter e i) (period e i) q fixed.member.rules.period-least (omega (arith, fixed.count-is)))
-
-      pub release-fits : Fits w64 (release + per)
-      release-fits = omega (arith, release-most, fixed.period-is, fixed.member.rules, fixed.span.most)
-
-      pub instance-fits : Fits w64 (q + 1)
-      instance-fits =
-          let few = mul-le-mul {n₁ = q} {m₁ = 1} {n₂ = q} {m₂ = period e i} (omega arith) fixed.member.rules.period-least in
-          omega (arith, few, release-most, s.release-is, fixed.member.rules, fixed.span.most)
-
   module _ {q ahead release w more : ℕ} (s : Waiting e i t q ahead release w) (l : q < count) (m : more ≡ demand e i (w + 1)) where
     next-is : ahead + more ≡ queue e i q w
     next-is = ap₂ ◌+◌ s.ahead-is m

@@ -1,5 +1,4 @@
 pub mod Events
 pub mod Times
-pub mod Answer
 pub mod Promise
 pub mod Parts

@@ -1,5 +1,5 @@
 -- What the parts of the call ask and hand each other, and how large the figures become.
-use Rattle.std.specs.Prelude.{ℕ, ◌+◌, ◌*◌, ◌<◌, ◌≤◌, ◌≡◌, true, false, List, get_or, Ok}
+use Rattle.std.specs.Prelude.{ℕ, ◌+◌, ◌*◌, ◌<◌, ◌≤◌, ◌≡◌, true, false, List, get_or, Ok, Option, MatchOption}
 use Rattle.rules.specs.Problem.{frame}
 use Rattle.response.specs.declared.times.Worst.{Worst}
 use Rattle.response.specs.Events.{most_events, longest_period, count, Rules, Sound}
@@ -28,10 +28,9 @@ pub record Span (e : List ℕ) (i t : ℕ) : Type 0 where
 pub record Spans (e s : List ℕ) (n : ℕ) : Type 0 where
   pub each : (i : ℕ) → i < n → Span e i (get_or s i 0)
 
--- r is event i's busy period, or 0 where it has none
-pub data BusyOr0 (e : List ℕ) (i r : ℕ) : Type 0 where
-  busy : Span e i r → BusyOr0 e i r
-  none : endless e i ≡ true → r ≡ 0 → BusyOr0 e i r
+-- r is event i's busy period, or nothing where it has none
+abbrev pub BusyOrNone : List ℕ → ℕ → Option ℕ → Type 0
+BusyOrNone e i r = MatchOption r (endless e i ≡ true) (Span e i)
 
 -- r is the fault x that was looked for; without one s begins with the busy periods of all events
 pub record Noted (e s : List ℕ) (x r : Fault) : Type 0 where

@@ -1,4 +1,5 @@
 // The figures of events that keep the rules: an event's own, what blocks it, and what comes before it within a span. A demand can be above 32 bits, so every figure is a usize.
+// One function reads each word of an event, since each has its own bounds in its contract.
 ghost use Rattle.std.specs.Prelude.{◌≡◌, ◌<◌, ◌≤◌, max};
 ghost use Rattle.response.specs.Events.{longest_period, identifier, period, jitter, deadline};
 ghost use Rattle.response.specs.Times.{wins, takes, blocked_by, blocking, ceiling, arrivals, interference, demand};
@@ -61,9 +62,10 @@ fn blocked_by(events: &[u32], i: usize, j: usize) -> usize
     ensures { Figure (blocked_by events.now i j) 0 longest_frame result }
 {
     if wins_over(events, i, j) {
-        return frame_of(events, j);
+        frame_of(events, j)
+    } else {
+        0
     }
-    0
 }
 
 // The longest frame of lower priority than event i's.
@@ -71,22 +73,19 @@ pub(crate) fn blocking_of(events: &[u32], i: usize) -> usize
     requires { Member events.now i }
     ensures { Figure (blocking events.now i) 0 longest_frame result }
 {
-    let n = count_of(events);
     let mut most: usize = 0;
-    let mut j: usize = 0;
-    while j < n {
+    for j in 0..count_of(events) {
         most = most.max(blocked_by(events, i, j));
-        j += 1;
     }
     most
 }
 
-// a / b, rounded up; divided as words, which is quicker.
+// a / b, rounded up; divided as words, since that division is quicker.
 fn ceiling_of(a: usize, b: usize) -> usize
     requires { (a ≤ most_arrivals) × (1 ≤ b) × (b ≤ longest_period) }
     ensures { Figure (ceiling a b) 0 most_arrivals result }
 {
-    ((a + (b - 1)) as u32 / b as u32) as usize
+    (a as u32).div_ceil(b as u32) as usize
 }
 
 // How many frames of event j can be queued within a span.
@@ -103,9 +102,10 @@ fn interference_of(events: &[u32], i: usize, j: usize, span: usize) -> usize
     ensures { Figure (interference events.now i span j) 0 most_interference result }
 {
     if wins_over(events, j, i) {
-        return frame_of(events, j) * arrivals_of(events, j, span);
+        frame_of(events, j) * arrivals_of(events, j, span)
+    } else {
+        0
     }
-    0
 }
 
 // How long all frames of higher priority than event i's take that can be queued within a span.
@@ -113,12 +113,9 @@ pub(crate) fn demand_of(events: &[u32], i: usize, span: usize) -> usize
     requires { Member events.now i × (span ≤ longest_span) }
     ensures { Figure (demand events.now i span) 0 most_demand result }
 {
-    let n = count_of(events);
     let mut total: usize = 0;
-    let mut j: usize = 0;
-    while j < n {
+    for j in 0..count_of(events) {
         total += interference_of(events, i, j, span);
-        j += 1;
     }
     total
 }

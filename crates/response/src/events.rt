@@ -4,7 +4,7 @@ ghost use Rattle.rules.specs.Refusal.{first_fault};
 ghost use Rattle.response.specs.Events.{event_words, count, field, Gives, Whole, fields_wrong, repeated, event_wrong, words_wrong, event_fault, events_fault};
 
 use basics::is_outside;
-use rules::{Fault, Refusal};
+use rules::{Refusal, refuse_if};
 
 // So many words are an event, and a call takes at most so many events.
 pub const EVENT_WORDS: usize = 5;
@@ -59,14 +59,7 @@ fn is_repeated(events: &[u32], j: usize) -> bool
     ensures { result ≡ repeated events.now j }
 {
     let id = word(events, j, IDENTIFIER);
-    let mut i: usize = 0;
-    while i < j {
-        if word(events, i, IDENTIFIER) == id {
-            return true;
-        }
-        i += 1;
-    }
-    false
+    (0..j).any(|i| word(events, i, IDENTIFIER) == id)
 }
 
 // Whether event j breaks a rule.
@@ -83,19 +76,14 @@ fn event_wrong(events: &[u32], j: usize) -> bool
 }
 
 // The first event that breaks a rule.
-fn first_fault(events: &[u32]) -> Fault
+fn first_fault(events: &[u32]) -> Result<(), Refusal>
     requires { Whole events.now }
     ensures { result ≡ first_fault (count events.now) (event_fault events.now) }
 {
-    let n = count_of(events);
-    let mut j: usize = 0;
-    while j < n {
-        if event_wrong(events, j) {
-            return Fault::Bad(Refusal::Event(j as u32));
-        }
-        j += 1;
+    for j in 0..count_of(events) {
+        refuse_if(event_wrong(events, j), Refusal::Event(j as u32))?;
     }
-    Fault::Clear
+    Ok(())
 }
 
 // Whether so many words aren't whole events, or are too many.
@@ -106,11 +94,9 @@ fn words_wrong(n: usize) -> bool
 }
 
 // What is wrong with the events: how many words they are, or the first that breaks a rule.
-pub(crate) fn events_fault(events: &[u32]) -> Fault
+pub(crate) fn events_fault(events: &[u32]) -> Result<(), Refusal>
     ensures { result ≡ events_fault events.now }
 {
-    if words_wrong(events.len()) {
-        return Fault::Bad(Refusal::EventWords);
-    }
+    refuse_if(words_wrong(events.len()), Refusal::EventWords)?;
     first_fault(events)
 }

@@ -12,7 +12,7 @@ use super::demand::{
 use super::events::{LONGEST_PERIOD, count_of};
 
 // How long an event's busy period is, the longest response of the instances in it, and the first instance that has it.
-#[derive(Drop)]
+#[derive(Clone, Copy)]
 pub struct Worst {
     pub span: usize,
     pub instance: usize,
@@ -24,13 +24,14 @@ fn worse(worst: Worst, q: usize, response: usize) -> Worst
     ensures { Worse worst q response result }
 {
     if worst.response < response {
-        return Worst {
-            span: worst.span,
+        Worst {
             instance: q,
             response,
-        };
+            ..worst
+        }
+    } else {
+        worst
     }
-    worst
 }
 
 // The worst of event i in its busy period, or the first instance whose response is above the limit. At each turn w climbs, or it is an instance's queuing
@@ -75,11 +76,11 @@ pub fn worst_of(events: &[u32], i: usize) -> Worst
     requires { Member events.now i × (endless events.now i ≡ false) }
     ensures { Response events.now i result.span result.instance result.response }
 {
-    let span = busy_of(events, i) as usize;
+    let span = busy_of(events, i).unwrap() as usize;
     worst_within(events, i, span, LONGEST_BUSY + LONGEST_PERIOD as usize)
 }
 
-// Event i's response time, from its busy period, or 0 if it misses its deadline.
+// The word that is written for event i: its response time, from its busy period, or 0, document 01's word for a missed deadline.
 fn time_of(events: &[u32], i: usize, span: usize) -> u32
     requires { Member events.now i × Span events.now i span }
     ensures { Written events.now i result }
@@ -87,19 +88,10 @@ fn time_of(events: &[u32], i: usize, span: usize) -> u32
     let deadline = deadline_of(events, i);
     let worst = worst_within(events, i, span, deadline);
     if deadline < worst.response {
-        return 0;
+        0
+    } else {
+        worst.response as u32
     }
-    worst.response as u32
-}
-
-// 1 for a time that is 0.
-fn miss_of(t: u32) -> u32
-    ensures { Figure (miss t) 0 1 result }
-{
-    if t == 0 {
-        return 1;
-    }
-    0
 }
 
 // Writes every event's time, from its busy period, and answers how many of them are 0.
@@ -107,14 +99,10 @@ pub(crate) fn fill(events: &[u32], spans: &[u32], times: &mut [u32]) -> u32
     requires { Sound events.now × Spans events.now spans.now (count events.now) × (count events.now ≤ length spans.now) × (count events.now ≤ length times.old) }
     ensures { TimesWritten events.now times.old times.new (count events.now) × (result ≡ zeros times.new (count events.now)) }
 {
-    let n = count_of(events);
     let mut misses: u32 = 0;
-    let mut i: usize = 0;
-    while i < n {
-        let t = time_of(events, i, spans[i] as usize);
-        times[i] = t;
-        misses += miss_of(t);
-        i += 1;
+    for (i, time) in times[..count_of(events)].iter_mut().enumerate() {
+        *time = time_of(events, i, spans[i] as usize);
+        misses += u32::from(*time == 0);
     }
     misses
 }
