@@ -44,6 +44,3 @@ owed-out {p} {a} {x} {v} {l} {j} {t} O e h =
       total = sym (add-zero t) ∙ ap₂ ◌+◌ O.total none ∙ sym (sum-next j _);
       most = let first = O.most in omega arith;
     }
-
-pub owed_all : {p a x v : List ℕ} {l j n t : ℕ} → j ≡ n → Owed p a x l j v t → Owed p a x l n v t
-owed_all {p} {a} {x} {v} {l} {j} {n} {t} e O = subst (λ (k : ℕ). Owed p a x l k v t) e O

@@ -1,15 +1,15 @@
 -- What the look-ahead learns from a place that leaves the others no room: what has no fault does not have it.
-use Prim.Native.Nat.{ℕ, ◌<◌, ◌≤◌}
+use Prim.Native.Nat.{ℕ, ◌<◌}
 use mathlib.Core.Path.{◌≡◌, refl, sym, subst, ◌∙◌}
-use mathlib.Core.Bool.{Bool, true, false}
+use mathlib.Core.Bool.{Bool, false}
 use mathlib.Core.List.{List}
+use Rattle.std.specs.Prelude.{None}
 use native.Mathlib.Decide.{ℕ_discrete}
 use native.Mathlib.Omega.{arith}
 use lib.ListN.{length, get_or, set}
 use lib.Seq.{get_or-set_same, get_or-set_other}
 use Rattle.basics.specs.Bits.{Has, Cleared}
 use Rattle.basics.proofs.Bits.{has-none}
-use Rattle.basics.proofs.Tests.{not-both}
 use Rattle.rules.specs.Problem.{messages, repeat, column, row}
 use Rattle.rules.specs.Tests.{Stand}
 use Rattle.rules.proofs.Bounds.{member, repeat-most}
@@ -19,11 +19,11 @@ use Rattle.lookahead.specs.Probe.{Cautious}
 use Rattle.places.proofs.Meets.{low_column, clash-meets, not-met}
 
 -- ---- a message without a place
-pub shut_none : {p a : List ℕ} {l m n r : ℕ} → m < messages p → Has l m → FirstRow a m n r → repeat p m ≤ r → Shut p a l
-shut_none {p} {a} {l} {m} lm hm F h = record {
+pub shut_none : {p a : List ℕ} {l m n : ℕ} → m < messages p → Has l m → n ≡ repeat p m → FirstRow a m n None → Shut p a l
+shut_none {p} {a} {l} {m} lm hm e F = record {
   none = λ w S W.
       let b = (stands S m lm).row_below in
-      has-none (column w m) (subst (λ (x : ℕ). Has x (column w m)) (F.none (row w m) (omega arith)) (W.has m lm hm));
+      has-none (column w m) (subst (λ (x : ℕ). Has x (column w m)) (F (row w m) (omega arith)) (W.has m lm hm));
 }
 
 -- ---- a place that leaves the others no room
@@ -62,9 +62,6 @@ module _ {p a b : List ℕ} {l l' m c d r : ℕ} (F : Few p) (lm : m < messages 
   }
 
 -- ---- the answer
-pub cautious-yes : (p a : List ℕ) (l : ℕ) → Cautious p a l true
-cautious-yes p a l = record { refuses = λ e. not-both refl e }
-
 pub cautious-no : {p a b : List ℕ} {l : ℕ} → Narrowed p l a b → Shut p b l → Cautious p a l false
 cautious-no N T = record { refuses = λ e. record { none = λ w S W. T.none w S (N.keeps w S W) } }
 

@@ -1,18 +1,12 @@
 -- Laws of the columns that a message may take by itself, in cells that are not taken.
-use Prim.Native.Nat.{ℕ, ◌+◌, ◌<◌, ◌≤◌}
-use mathlib.Core.Path.{◌≡◌, sym, ap, ◌∙◌}
-use mathlib.Core.Bool.{Bool, true, false}
+use Prim.Native.Nat.{ℕ, ◌<◌, ◌≤◌}
+use mathlib.Core.Path.{◌≡◌}
 use mathlib.Core.List.{List}
-use mathlib.Core.Logic.{⊎_elim}
 use native.Mathlib.Omega.{arith}
-use borrow.Author.Count.{below_more}
-use Rattle.basics.specs.Bits.{Has, Joined}
+use Rattle.basics.specs.Bits.{Has}
 use Rattle.basics.proofs.Bits.{has-none}
-use Rattle.basics.proofs.Tests.{true-T, not-both}
-use Rattle.rules.specs.Refusal.{is_clear}
 use Rattle.rules.specs.Problem.{most_columns, rows, columns, repeat}
 use Rattle.rules.specs.Tests.{own_fault}
-use Rattle.rules.proofs.Faults.{clear-is}
 use Rattle.row_words.specs.RowWords.{FreeIn}
 use Rattle.places.specs.Places.{Allowed}
 use Rattle.places.proofs.Meets.{own-placed}
@@ -26,18 +20,6 @@ pub record AllowedBelow (p : List ℕ) (j r n x : ℕ) : Type 0 where
 module _ (p : List ℕ) (j r : ℕ) where
   pub allowed-none : AllowedBelow p j r 0 0
   allowed-none = record { holds = λ c l e. absurd (omega arith); only = λ c h. absurd (has-none c h) }
-
-  pub allowed-set : {n x y : ℕ} {b : Bool} → AllowedBelow p j r n x → b ≡ is_clear (own_fault p j n r) → b ≡ true → Joined x n y → AllowedBelow p j r (n + 1) y
-  allowed-set {n} A e t J = record {
-    holds = below_more _ n (λ c l f. J.keeps c (A.holds c l f)) (λ f. J.here);
-    only = λ c g. ⊎_elim (λ q. rw q (clear-is (own_fault p j n r) (true-T (sym e ∙ t)))) (λ k. A.only c k) (J.only c g);
-  }
-
-  pub allowed-skip : {n x : ℕ} {b : Bool} → AllowedBelow p j r n x → b ≡ is_clear (own_fault p j n r) → b ≡ false → AllowedBelow p j r (n + 1) x
-  allowed-skip {n} A e t = record {
-    holds = below_more _ n (λ c l f. A.holds c l f) (λ f. not-both (e ∙ ap is_clear f) t);
-    only = A.only;
-  }
 
   -- and of these y has those that are free in the message's rows
   pub allowed_all : {n x y step high : ℕ} {o : List ℕ} → columns p ≤ most_columns → columns p ≤ n → AllowedBelow p j r n x → step ≡ repeat p j → high ≡ rows p → FreeIn o r step high x y → Allowed p o j r y

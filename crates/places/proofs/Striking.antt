@@ -9,9 +9,10 @@ use lib.Arith.{digits_mod}
 use lib.ListN.{length, get_or, set}
 use Rattle.basics.specs.Bits.{Cleared}
 use Rattle.basics.proofs.Tests.{below_or}
-use Rattle.rules.specs.Problem.{most_rows, messages}
+use Rattle.rules.specs.Problem.{most_rows}
+use Rattle.rules.specs.Parts.{Repeat}
 use Rattle.rules.specs.Tests.{common}
-use Rattle.places.specs.Places.{table_at, Steps, Spared, Copied, Beside}
+use Rattle.places.specs.Places.{table_at, Spared}
 use Rattle.places.proofs.Tables.{Row, row-start, row_more, row-stay}
 
 -- from a number to the next with the same rest there is none
@@ -36,12 +37,9 @@ pub record Shared (p : List ℕ) (m j n : ℕ) : Type 0 where
   pub some : 0 < n
   pub most : n ≤ most_rows
 
-pub shared : {p s : List ℕ} {m j n : ℕ} → Steps p s → m < messages p → j < messages p → n ≡ min (get_or s m 0) (get_or s j 0) → Shared p m j n
+pub shared : {p : List ℕ} {m j x y n : ℕ} → Repeat p m x → Repeat p j y → n ≡ min x y → Shared p m j n
 unfolding common
-shared {p} {s} {m} {j} S lm lj e =
-    let a = S.each m lm in
-    let b = S.each j lj in
-    record { is = e ∙ ap₂ min a.is b.is; some = omega (arith, a.least, b.least); most = omega (arith, a.most) }
+shared a b e = record { is = e ∙ ap₂ min a.is b.is; some = omega (arith, a.least, b.least); most = omega (arith, a.most) }
 
 module _ (p : List ℕ) (m c r j : ℕ) where
   -- a row that does not meet it stays
@@ -72,9 +70,3 @@ module _ (p : List ℕ) (m c r j : ℕ) where
         row-stay _ j (i + 1) (min (i + s) most_rows) (omega arith)
         (λ k y g l. stays k y (λ z. let f : k % s ≡ r % s = rw S.is z in not-between s i k some (omega arith) (omega arith) (f ∙ sym h)))
         (row_more _ j i x e a q room (struck i (subst (λ (n : ℕ). i % n ≡ r % n) S.is h) C) R')
-
--- a table that is copied first
-pub beside-copied : {p a b d : List ℕ} {l m c r : ℕ} → Copied p l a b → Beside p l m c r b d → Beside p l m c r a d
-beside-copied {p} {d = d} {m = m} {c} {r} C B = record {
-  each = λ j i lj hj li. subst (λ (x : ℕ). Spared p m c r j i x (get_or d (table_at j i) 0)) (C.each j i lj hj li) (B.each j i lj hj li);
-}

@@ -53,9 +53,6 @@ pub record Made (p : List ℕ) (Q : ℕ → ℕ → ℕ → ℕ → Type 0) (j :
   pub rest : (n : ℕ) → table_at j 0 ≤ n → get_or a n 0 ≡ get_or e n 0
 
 module _ (p : List ℕ) (Q : ℕ → ℕ → ℕ → ℕ → Type 0) where
-  pub made-start : (e : List ℕ) → Made p Q 0 e e
-  made-start e = record { earlier = λ k l i h. absurd (omega arith); rest = λ n l. refl }
-
   -- one message more
   pub made_more : (j r : ℕ) {e a b : List ℕ} → Few p → j < messages p → repeat p j ≤ r → r ≤ most_rows → Row (Q j) j r a b → Made p Q j e a → Made p Q (j + 1) e b
   made_more j r {e} {a} {b} F lj h m R M = record {

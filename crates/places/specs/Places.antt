@@ -1,5 +1,5 @@
 -- The places that messages may take, as a table. A set of columns is a word with a digit for each, and so is a set of messages.
-use Rattle.std.specs.Prelude.{ℕ, ◌+◌, ◌*◌, ◌%◌, ◌<◌, ◌≤◌, ◌≡◌, List, get_or, Ok}
+use Rattle.std.specs.Prelude.{ℕ, ◌+◌, ◌*◌, ◌%◌, ◌<◌, ◌≤◌, ◌≡◌, List, get_or, Option, None, Some, Ok}
 use Rattle.basics.specs.Bits.{Has}
 use Rattle.rules.specs.Problem.{most_rows, most_columns, rows, messages, repeat, column, row, WellFormed}
 use Rattle.rules.specs.Parts.{Repeat}
@@ -61,11 +61,15 @@ pub record Beside (p : List ℕ) (l m c r : ℕ) (a b : List ℕ) : Type 0 where
 pub record Copied (p : List ℕ) (l : ℕ) (a b : List ℕ) : Type 0 where
   pub each : (j i : ℕ) → j < messages p → Has l j → i < repeat p j → get_or b (table_at j i) 0 ≡ get_or a (table_at j i) 0
 
--- r is the first of n base rows with which message j has a place in the table a, or n if there is none
-pub record FirstRow (a : List ℕ) (j n r : ℕ) : Type 0 where
-  pub most : r ≤ n
+-- r is the first base row with which message j has a place in the table a
+pub record FirstPlace (a : List ℕ) (j r : ℕ) : Type 0 where
   pub none : (i : ℕ) → i < r → get_or a (table_at j i) 0 ≡ 0
-  pub some : r < n → 0 < get_or a (table_at j r) 0
+  pub some : 0 < get_or a (table_at j r) 0
+
+-- it is the first of n, or none of these has a place
+abbrev pub FirstRow : List ℕ → ℕ → ℕ → Option ℕ → Type 0
+FirstRow a j n None = (i : ℕ) → i < n → get_or a (table_at j i) 0 ≡ 0
+FirstRow a j n (Some r) = (r < n) × FirstPlace a j r
 
 -- ---- all messages
 -- the messages of the set l stand in w at places of the table a

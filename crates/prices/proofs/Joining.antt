@@ -1,5 +1,5 @@
 -- Laws of the cells in which some messages may be sent, row by row and in a row message by message.
-use Prim.Native.Nat.{ℕ, ◌+◌, ◌%◌, ◌<◌, ◌≤◌}
+use Prim.Native.Nat.{ℕ, ◌+◌, ◌%◌, ◌<◌}
 use mathlib.Core.Path.{◌≡◌, sym, subst, ◌∙◌}
 use mathlib.Core.Bool.{Bool, false}
 use mathlib.Core.List.{List}
@@ -17,11 +17,7 @@ use Rattle.rules.specs.Problem.{messages, repeat}
 use Rattle.places.specs.Places.{table_at}
 use Rattle.prices.specs.Prices.{JointIn, Joint}
 
--- ---- a row
 module _ (p a : List ℕ) (l i : ℕ) where
-  pub joint-in-none : JointIn p a l i 0 0
-  joint-in-none = record { has = λ j c h. absurd (omega arith) }
-
   pub joint-in-set : {n x s at : ℕ} → s ≡ repeat p n → at ≡ table_at n (i % s) → JointIn p a l i n x → JointIn p a l i (n + 1) (bit_or x (get_or a at 0))
   joint-in-set {n} {x} {s} {at} e q J =
       let f : at ≡ table_at n (i % repeat p n) = subst (λ (s : ℕ). at ≡ table_at n (i % s)) e q in
@@ -40,20 +36,10 @@ module _ (p a : List ℕ) (l i : ℕ) where
         j g;
   }
 
-  pub joint-in-all : {n m x : ℕ} → m ≤ n → JointIn p a l i n x → JointIn p a l i m x
-  joint-in-all h J = record { has = λ j c g. J.has j c (omega arith) }
-
--- ---- the rows
-module _ (p a : List ℕ) (l : ℕ) where
-  pub joint-none : (u : List ℕ) → Joint p a l 0 u
-  joint-none u = record { each = λ i h. absurd (omega arith) }
-
-  pub joint-next : {n x : ℕ} {u : List ℕ} → n < length u → JointIn p a l n (messages p) x → Joint p a l n u → Joint p a l (n + 1) (set u n x)
-  joint-next {n} {x} {u} room I J = record {
-    each = below_more _ n
-        (λ i h. subst (λ (y : ℕ). JointIn p a l i (messages p) y) (sym (get_or-set_other u n i x 0 (λ d. omega arith))) (J.each i h))
-        (subst (λ (y : ℕ). JointIn p a l n (messages p) y) (sym (get_or-set_same u n x 0 room)) I);
-  }
-
-  pub joint-all : {n m : ℕ} {u : List ℕ} → m ≤ n → Joint p a l n u → Joint p a l m u
-  joint-all h J = record { each = λ i g. J.each i (omega arith) }
+-- the next row
+pub joint-next : {p a : List ℕ} {l n x : ℕ} {u : List ℕ} → n < length u → JointIn p a l n (messages p) x → Joint p a l n u → Joint p a l (n + 1) (set u n x)
+joint-next {p} {a} {l} {n} {x} {u} room I J = record {
+  each = below_more _ n
+      (λ i h. subst (λ (y : ℕ). JointIn p a l i (messages p) y) (sym (get_or-set_other u n i x 0 (λ d. omega arith))) (J.each i h))
+      (subst (λ (y : ℕ). JointIn p a l n (messages p) y) (sym (get_or-set_same u n x 0 room)) I);
+}

@@ -6,12 +6,10 @@ use mathlib.Core.Logic.{⊎_elim}
 use native.Mathlib.Nat.{pow-suc, mod-eq_of_lt, add-mod_left, eq-or-lt_of_le}
 use native.Mathlib.Decide.{ℕ_discrete}
 use native.Mathlib.Omega.{arith}
-use borrow.Author.Count.{below_more}
 use borrow.Author.Tests.{eq-eqb, ne_eqb}
 use lib.Dec.{eqb}
-use lib.ListN.{length, get_or, set}
+use lib.ListN.{get_or}
 use lib.Pow.{pow_mono}
-use lib.Seq.{get_or-set_same, get_or-set_other}
 use Rattle.basics.specs.Sums.{only}
 use Rattle.basics.proofs.Sums.{sum-rises, sum-add, sum-single}
 use Rattle.rules.specs.Problem.{most_columns, rows}
@@ -24,17 +22,6 @@ use Rattle.prices.specs.Prices.{price, cost, sum_at, Halved, Sums}
 -- the first k words of x from n on are those of y
 pub record Filled (y : List ℕ) (n k : ℕ) (x : List ℕ) : Type 0 where
   pub is : (i : ℕ) → i < k → get_or x (n + i) 0 ≡ get_or y i 0
-
-module _ (y : List ℕ) (n : ℕ) where
-  pub filled_none : (x : List ℕ) → Filled y n 0 x
-  filled_none x = record { is = λ i l. absurd (omega arith) }
-
-  pub filled_next : {k v : ℕ} {x : List ℕ} → n + k < length x → v ≡ get_or y k 0 → Filled y n k x → Filled y n (k + 1) (set x (n + k) v)
-  filled_next {k} {v} {x} room e f = record {
-    is = below_more _ k
-        (λ i l. get_or-set_other x (n + k) (n + i) v 0 (λ d. omega arith) ∙ f.is i l)
-        (get_or-set_same x (n + k) v 0 room ∙ e);
-  }
 
 -- ---- one power
 -- no sum of x for the power s is more than its cells cost, of m rows

@@ -1,6 +1,5 @@
 pub mod Cheaper
 pub mod Worths
-pub mod Halving
 pub mod Levels
 pub mod Joining
 pub mod Paying

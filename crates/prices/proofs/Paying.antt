@@ -8,7 +8,7 @@ use native.Mathlib.Omega.{arith}
 use borrow.Author.Tests.{eq-eqb, eqb-true}
 use lib.Dec.{eqb}
 use lib.ListN.{get_or}
-use Rattle.basics.specs.Bits.{bit, Has, Cleared}
+use Rattle.basics.specs.Bits.{bit, Has}
 use Rattle.basics.specs.Sums.{sum, only}
 use Rattle.basics.proofs.Sums.{sum-rises, sum-swap, own-terms, exchange}
 use Rattle.basics.proofs.Tests.{and-true, not-both}
@@ -131,28 +131,12 @@ joint-less F K J = record {
 }
 
 -- ---- what the loops compute
--- a column is cleared only where it costs too much
-pub paid-start : (x : List ℕ) (s r t m b : ℕ) → PaidIn x s r t m b b
-paid-start x s r t m b = record { only = λ c h. h; keeps = λ c l h k. h }
-
-pub paid-clear : {x : List ℕ} {s r t m b k d at z y : ℕ} → at ≡ sum_at s r k → k ≡ d → m < t + get_or x at 0 → Cleared z d y → PaidIn x s r t m b z → PaidIn x s r t m b y
-paid-clear {x} {s} {r} {t} {m} {d = d} e f h C P = record {
-  only = λ c g. P.only c (C.only c g);
-  keeps = λ c l g k. C.keeps c l (λ q. let i : m < t + get_or x (sum_at s r c) 0 = subst (λ (i : ℕ). m < t + get_or x i 0) (omega arith) h in omega arith) (P.keeps c l g k);
-}
-
 -- a message of l has in z the columns of b that it can pay for with base row r
 pub record PaidAt (p x : List ℕ) (l : ℕ) (v : List ℕ) (t m j r b z : ℕ) : Type 0 where
   pub paid : Has l j → PaidIn x (repeat p j) r t (m + get_or v j 0) b z
 
 module _ {p x : List ℕ} {l : ℕ} {v : List ℕ} {t m : ℕ} where
-  pub paid-at : {j r s q b z : ℕ} → s ≡ repeat p j → q ≡ get_or v j 0 → PaidIn x s r t (m + q) b z → PaidAt p x l v t m j r b z
-  paid-at e f P = record { paid = λ h. rw (← e, ← f) P }
-
   -- a message that is not of l
   pub paid-skip : {j : ℕ} {b : Bool} {e a : List ℕ} → b ≡ eqb (bit l j) 1 → b ≡ false → Made p (PaidAt p x l v t m) j e a
       → Made p (PaidAt p x l v t m) (j + 1) e a
   paid-skip {j} f g M = made-skip _ _ j (λ i x y. record { paid = λ h. not-both (eq-eqb (bit l j) 1 h) (sym f ∙ g) }) M
-
-  pub paid-all : {n : ℕ} {a b : List ℕ} → messages p ≤ n → Made p (PaidAt p x l v t m) n a b → Paid p x l v t m a b
-  paid-all h M = record { each = λ j r k g q. (M.earlier j (omega arith) r q).paid g }

@@ -7,7 +7,7 @@ use native.Mathlib.Omega.{arith}
 use borrow.Author.Tests.{eq-eqb, ne_eqb}
 use lib.Dec.{eqb}
 use lib.ListN.{get_or}
-use Rattle.basics.specs.Bits.{bit, Cleared}
+use Rattle.basics.specs.Bits.{bit, Cleared, Lowest}
 use Rattle.basics.specs.Sums.{sum, only}
 use Rattle.basics.proofs.Bits.{bit-zero}
 use Rattle.basics.proofs.Sums.{sum-next, sum-rises, sum-add, sum-single, sum-zero, only-most}
@@ -41,15 +41,11 @@ module _ (y : List ℕ) (i : ℕ) where
         ]
       ]
 
-  pub counted_none : (x : ℕ) → Counted y i x 0 x
-  counted_none x = record { least = omega arith; most = omega arith }
-
-  pub counted_next : {x t k m q z w at : ℕ} → at ≡ cell_at i k → k ≡ m → m < most_columns → q ≡ get_or y at 0 → q ≤ most_price → Cleared z m w → w < z
-      → Counted y i x t z → Counted y i x (t + q) w
-  counted_next {m = m} {q = q} {at = at} e f l v h C g K =
-      let d : get_or y at 0 ≡ price y i m = rw (e, f) in
-      let s = less l C in
-      record { least = let b = K.least in omega arith; most = let b = K.most in omega arith }
+  pub counted_next : {x t k q z w at : ℕ} → at ≡ cell_at i k → q ≡ get_or y at 0 → q ≤ most_price → Lowest z k w → Counted y i x t z → Counted y i x (t + q) w
+  counted_next {k = k} {q = q} e v h D K =
+      let s = less D.below D.rest in
+      let f : q ≡ price y i k = rw (← e) v in
+      record { least = let b = K.least in omega arith; most = let b = K.most in let g = D.less in omega arith }
 
   nothing : worth_in y i 0 ≡ 0
   unfolding worth_in
@@ -66,6 +62,3 @@ worth-next y u n h g = let s = sum-next n (λ i. worth_in y i (get_or u i 0)) in
 pub worth-none : (y u : List ℕ) → worth y 0 u ≤ 0
 unfolding worth sum
 worth-none y u = omega arith
-
-pub worth-all : (y u : List ℕ) (n m : ℕ) {t : ℕ} → n ≡ m → worth y n u ≤ t → worth y m u ≤ t
-worth-all y u n m {t} e h = subst (λ (k : ℕ). worth y k u ≤ t) e h

@@ -4,10 +4,11 @@
 
 ghost use Rattle.std.specs.Prelude.{◌≡◌, ◌+◌, ◌*◌, ◌<◌, ◌≤◌, length};
 ghost use Rattle.rules.specs.Problem.{most_rows, most_columns, rows, messages};
-ghost use Rattle.places.specs.Places.{most_planned, table_words, Few, Steps};
+ghost use Rattle.places.specs.Places.{most_planned};
 ghost use Rattle.prices.specs.Prices.{cell_at, most_cells, most_price, dearest, worth_in, worth, row_worth, most_worth, JointIn, Joint};
 ghost use Rattle.prices.specs.Prices.{sum_at, most_sums, Halved, Sums, Cheap, Owed, PaidIn, Paid};
 
+use places::Plannable;
 use rules::words;
 
 // The cells of the largest matrix.
@@ -50,46 +51,29 @@ pub fn sum_at(s: usize, r: usize, c: usize) -> usize
 }
 
 // The columns of row i in which a message of `left` may be sent, and the same for each row.
-fn joint_in(
-    p: &[u32],
-    steps: &[usize; places::MOST_PLANNED],
-    table: &[u32; places::TABLE_WORDS],
-    left: u32,
-    i: usize,
-) -> u32
-    requires few { Few p.now }
-    requires steps { Steps p.now steps.now }
+fn joint_in(p: &Plannable, table: &[u32; places::TABLE_WORDS], left: u32, i: usize) -> u32
     requires i_lt_most_rows { i < most_rows }
     ensures { JointIn p.now table.now left i (messages p.now) result }
 {
-    let count = words::messages_of(p);
     let mut x: u32 = 0;
-    let mut j = 0;
-    while j < count {
+    for j in 0..p.messages() {
         if basics::has_bit(left, j as u32) {
-            x = x | table[places::table_at(j, i % steps[j])];
+            x |= table[places::table_at(j, i % p.step(j))];
         }
-        j += 1;
     }
     x
 }
 
 pub fn joint(
-    p: &[u32],
-    steps: &[usize; places::MOST_PLANNED],
+    p: &Plannable,
     table: &[u32; places::TABLE_WORDS],
     left: u32,
 ) -> [u32; words::MOST_ROWS]
-    requires few { Few p.now }
-    requires steps { Steps p.now steps.now }
     ensures { Joint p.now table.now left (rows p.now) result }
 {
-    let rows = words::rows_of(p);
     let mut u = [0u32; words::MOST_ROWS];
-    let mut i = 0;
-    while i < rows {
-        u[i] = joint_in(p, steps, table, left, i);
-        i += 1;
+    for i in 0..p.rows() {
+        u[i] = joint_in(p, table, left, i);
     }
     u
 }
@@ -100,52 +84,40 @@ fn worth_in(prices: &[u16; CELLS], i: usize, x: u32) -> u64
     ensures { (worth_in prices.now i x ≤ result) × (result ≤ row_worth) }
 {
     let mut t: u64 = 0;
-    let mut z = x;
-    while z != 0 {
-        t += u64::from(prices[cell_at(i, basics::lowest(z) as usize)]);
-        z = basics::drop_lowest(z);
+    for c in basics::digits_of(x) {
+        t += u64::from(prices[cell_at(i, c as usize)]);
     }
     t
 }
 
 // What the cells u are worth.
-pub fn worth_of(p: &[u32], prices: &[u16; CELLS], u: &[u32; words::MOST_ROWS]) -> u64
-    requires { Few p.now }
+pub fn worth_of(p: &Plannable, prices: &[u16; CELLS], u: &[u32; words::MOST_ROWS]) -> u64
     ensures { (worth prices.now (rows p.now) u.now ≤ result) × (result ≤ most_worth) }
 {
-    let rows = words::rows_of(p);
     let mut t: u64 = 0;
-    let mut i = 0;
-    while i < rows {
+    for i in 0..p.rows() {
         t += worth_in(prices, i, u[i]);
-        i += 1;
     }
     t
 }
 
 // The sums for a power of two from those for the next: they stand from n on, for n words, the others behind them.
 fn halve(sums: &mut [u32; SUMS], n: usize)
-    requires { (4 * n ≤ most_sums) × (length sums.old ≡ most_sums) }
-    ensures { Halved n sums.old sums.new × (length sums.new ≡ most_sums) }
+    requires { 4 * n ≤ most_sums }
+    ensures { Halved n sums.old sums.new }
 {
-    let mut k = 0;
-    while k < n {
+    for k in 0..n {
         sums[n + k] = sums[2 * n + k] % NO_SUM + sums[3 * n + k] % NO_SUM;
-        k += 1;
     }
 }
 
 // The sums of the prices, for each power of two.
-pub fn add_up(p: &[u32], prices: &[u16; CELLS], sums: &mut [u32; SUMS])
-    requires few { Few p.now }
-    requires sums_len { length sums.old ≡ most_sums }
-    ensures { Sums p.now prices.now sums.new × (length sums.new ≡ most_sums) }
+pub fn add_up(p: &Plannable, prices: &[u16; CELLS], sums: &mut [u32; SUMS])
+    ensures { Sums p.now prices.now sums.new }
 {
-    let mut n = words::MOST_COLUMNS * words::rows_of(p);
-    let mut k = 0;
-    while k < n {
+    let mut n = words::MOST_COLUMNS * p.rows();
+    for k in 0..n {
         sums[n + k] = u32::from(prices[k]);
-        k += 1;
     }
     while words::MOST_COLUMNS < n {
         n = n / 2;
@@ -166,20 +138,15 @@ pub fn cheapest(
     let mut cost = DEAREST;
     let mut column: u32 = 0;
     let mut row = 0;
-    let mut r = 0;
-    while r < step {
-        let mut z = table[places::table_at(j, r)];
-        while z != 0 {
-            let c = basics::lowest(z);
+    for r in 0..step {
+        for c in basics::digits_of(table[places::table_at(j, r)]) {
             let s = sums[sum_at(step, r, c as usize)];
             if s < cost {
                 cost = s;
                 column = c;
                 row = r;
             }
-            z = basics::drop_lowest(z);
         }
-        r += 1;
     }
     Offer { cost, column, row }
 }
@@ -190,13 +157,10 @@ fn paid_in(sums: &[u32; SUMS], step: usize, r: usize, x: u32, others: u64, most:
     ensures { PaidIn sums.now step r others most x result }
 {
     let mut kept = x;
-    let mut z = x;
-    while z != 0 {
-        let c = basics::lowest(z);
+    for c in basics::digits_of(x) {
         if most < others + u64::from(DEAREST.min(sums[sum_at(step, r, c as usize)])) {
             kept = basics::clear_bit(kept, c);
         }
-        z = basics::drop_lowest(z);
     }
     kept
 }
@@ -204,8 +168,7 @@ fn paid_in(sums: &[u32; SUMS], step: usize, r: usize, x: u32, others: u64, most:
 // Takes out every place that costs more than the cells are worth once each other message has its cheapest place: all, if even the cheapest places
 // cost more together. Whether there was one.
 pub fn narrow(
-    p: &[u32],
-    steps: &[usize; places::MOST_PLANNED],
+    p: &Plannable,
     table: &mut [u32; places::TABLE_WORDS],
     left: u32,
     sums: &[u32; SUMS],
@@ -213,32 +176,23 @@ pub fn narrow(
     cost: u64,
     worth: u64,
 ) -> bool
-    requires few { Few p.now }
-    requires steps { Steps p.now steps.now }
     requires owed { Owed p.now table.old sums.now left (messages p.now) least.now cost }
     requires worth_le_most_worth { worth ≤ most_worth }
-    requires table_len { length table.old ≡ table_words }
     ensures paid { Paid p.now sums.now left least.now cost worth table.old table.new }
-    ensures table_len_2 { length table.new ≡ table_words }
 {
-    let count = words::messages_of(p);
     let mut some = false;
-    let mut j = 0;
-    while j < count {
+    for j in 0..p.messages() {
         if basics::has_bit(left, j as u32) {
-            let step = steps[j];
+            let step = p.step(j);
             let most = worth + u64::from(least[j]);
-            let mut r = 0;
-            while r < step {
+            for r in 0..step {
                 let k = places::table_at(j, r);
                 let x = table[k];
                 let z = paid_in(sums, step, r, x, cost, most);
                 table[k] = z;
-                some = some | (z != x);
-                r += 1;
+                some |= z != x;
             }
         }
-        j += 1;
     }
     some
 }

@@ -1,26 +1,11 @@
 -- Placements put into a copy of the kept ones, slot by slot: no slot is that of a kept message, nor that of another slot.
-use Prim.Native.Nat.{ℕ, ◌+◌, ◌*◌, ◌<◌, ◌≤◌}
-use mathlib.Core.Path.{◌≡◌, ap, ◌∙◌}
-use mathlib.Core.Bool.{true}
-use mathlib.Core.List.{List, ◌++◌}
-use native.Mathlib.Omega.{arith}
-use borrow.Author.Count.{below_none, below_more}
-use lib.ListN.{length, get_or, get_or-append}
+use Rattle.std.proofs.Common.{ℕ, ◌+◌, ◌*◌, ◌<◌, ◌≤◌, ◌≡◌, ap, ◌∙◌, true, List, arith, below_more, length, get_or}
 use Rattle.basics.proofs.Tests.{not-both}
 use Rattle.rules.specs.Problem.{column, row, most_messages}
 use Rattle.kept.specs.Kept.{keeps, put}
 use Rattle.kept.proofs.Putting.{other-column, other_row, own-column, own_row}
 use Rattle.rest.specs.Free.{Free}
 use Rattle.rest.specs.Joined.{Joined}
-
--- the kept placements at the front, and as yet no slot
-pub joined-none : {k m v w : List ℕ} {h : ℕ} (rest : List ℕ) → length k ≡ 2 * h → w ≡ k ++ rest → Joined k m 0 v h w
-joined-none {k} {m} {v} {w} {h} rest l e = record {
-  kept-columns = λ j g f. ap (λ (t : List ℕ). column t j) e ∙ get_or-append k rest 0 (2 * j) (omega arith);
-  kept-rows = λ j g f. ap (λ (t : List ℕ). row t j) e ∙ get_or-append k rest 0 (2 * j + 1) (omega arith);
-  free-columns = below_none _;
-  free-rows = below_none _;
-}
 
 -- a slot more
 pub joined-more : {k m v w : List ℕ} {n s h : ℕ} → Free k h m n → s < n → h ≤ most_messages → length w ≡ 2 * most_messages → Joined k m s v h w

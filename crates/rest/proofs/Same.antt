@@ -1,14 +1,9 @@
 -- Some messages as a problem of their own have the same matrix, and each the same words, repeat and tests as before.
-use Prim.Native.Nat.{ℕ, ◌+◌, ◌*◌, ◌-◌, ◌/◌, ◌%◌, ◌<◌, min}
-use mathlib.Core.Path.{◌≡◌, sym, ap, ap₂, ◌∙◌}
-use mathlib.Core.List.{List}
-use native.Mathlib.Omega.{arith}
-use lib.ListN.{get_or}
+use Rattle.std.proofs.Common.{ℕ, ◌+◌, ◌*◌, ◌-◌, ◌/◌, ◌%◌, ◌<◌, min, ◌≡◌, sym, ap, ap₂, ◌∙◌, List, arith, get_or, Ok}
 use Rattle.rules.specs.Problem.{rows, cycle, columns, column_at, message_at, start, field, frame, lasts, repeat, column, row}
 use Rattle.rules.specs.Tests.{wait, common, own_fault}
 use Rattle.rules.proofs.Meaning.{own_alone, alone-own, Meets}
 use Rattle.rest.specs.Part.{count_at, message_words, Part}
-use Rattle.std.specs.Prelude.{Ok}
 
 -- a wait by the words that it goes by
 wait_by : (r : ℕ) {b b' s s' t t' o o' : ℕ} → b ≡ b' → s ≡ s' → t ≡ t' → o ≡ o' → (r * b + s + t - o) % t ≡ (r * b' + s' + t' - o') % t'

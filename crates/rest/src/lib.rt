@@ -1,51 +1,56 @@
 // The messages without a kept placement: which they are, the problem that they make by themselves, and one proposal of what is kept and what is found for them.
 #![tactic(auto)]
 
-ghost use Rattle.std.specs.Prelude.{◌≡◌, ◌+◌, ◌*◌, ◌<◌, ◌≤◌, length, take};
+mod group;
+
+ghost use Rattle.std.specs.Prelude.{◌≡◌, ◌+◌, ◌*◌, ◌<◌, ◌≤◌, MatchResult, length};
 ghost use Rattle.rules.specs.Problem.{WellFormed, messages as messageCount, most_messages};
+ghost use Rattle.rules.specs.declared.Refusal.TheVariants.{TooMany};
 ghost use Rattle.places.specs.Places.{most_planned};
 ghost use Rattle.rest.specs.Free.{free_of, Free};
-ghost use Rattle.rest.specs.Part.{part_words, Part, Numbers, Filed};
+ghost use Rattle.rest.specs.Part.{Part, Numbers, Filed};
 ghost use Rattle.rest.specs.Joined.{Joined};
 
-use rules::words;
+pub use group::Group;
+use rules::{Refusal, words};
 
 // The words of the longest problem that is planned.
 pub const PART_WORDS: usize = words::HEADER_WORDS
     + words::COLUMN_WORDS * words::MOST_COLUMNS
     + words::MESSAGE_WORDS * places::MOST_PLANNED;
 
-// How many messages have no kept placement, and the numbers of as many of them as are planned at most.
-#[derive(Drop)]
-pub struct Left {
-    pub count: usize,
-    pub numbers: [usize; places::MOST_PLANNED],
+// How many messages have no kept placement.
+pub fn free_count(kept: &[u32], messages: usize) -> usize
+    requires { (messages ≤ most_messages) × (length kept.now ≡ 2 * messages) }
+    ensures { (result ≡ free_of kept.now messages) × (result ≤ most_messages) }
+{
+    let mut count = 0;
+    for j in 0..messages {
+        count += usize::from(!kept::keeps(kept, j));
+    }
+    count
 }
 
-// The messages without a kept placement, in file order. Behind the most that are planned they are only counted: so many are not planned.
-pub fn free_of(kept: &[u32], messages: usize) -> Left
+// The messages without a kept placement, in file order, unless there are more than are planned.
+pub fn free_of(kept: &[u32], messages: usize) -> Result<Group, Refusal>
     requires { (messages ≤ most_messages) × (length kept.now ≡ 2 * messages) }
-    ensures count_value { (result.count ≡ free_of kept.now messages) × (result.count ≤ most_messages) }
-    ensures free { result.count ≤ most_planned → Free kept.now messages result.numbers result.count }
+    ensures { MatchResult result (λ g. Free kept.now messages g (length g) × (length g ≡ free_of kept.now messages)) (λ q. (q ≡ TooMany) × (most_planned < free_of kept.now messages)) }
 {
-    let mut numbers = [0usize; places::MOST_PLANNED];
-    let mut count = 0;
-    let mut j = 0;
-    while j < messages {
-        if !kept::keeps(kept, j) {
-            if count < places::MOST_PLANNED {
-                numbers[count] = j;
-            }
-            count += 1;
-        }
-        j += 1;
+    if places::MOST_PLANNED < free_count(kept, messages) {
+        return Err(Refusal::TooMany);
     }
-    Left { count, numbers }
+    let mut group = Group::none();
+    for j in 0..messages {
+        if !kept::keeps(kept, j) {
+            group.add(j);
+        }
+    }
+    Ok(group)
 }
 
 // Copies the record of message j to slot s of a problem with the same columns.
-fn copy_message(p: &[u32], j: usize, s: usize, q: &mut [u32])
-    requires { WellFormed p.now × (j < messageCount p.now) × (s < most_planned) × (part_words ≤ length q.old) }
+fn copy_message(p: &[u32], j: usize, s: usize, q: &mut [u32; PART_WORDS])
+    requires { WellFormed p.now × (j < messageCount p.now) × (s < most_planned) }
     ensures { Filed p.now j s q.old q.new }
 {
     let columns = words::columns_of(p);
@@ -54,48 +59,37 @@ fn copy_message(p: &[u32], j: usize, s: usize, q: &mut [u32])
     basics::copy_words(&p[from..from + words::MESSAGE_WORDS], &mut q[to..]);
 }
 
-// Some messages of a problem as a problem of their own, at the front of a buffer. How many words it has.
-pub fn part_of(
-    p: &[u32],
-    numbers: &[usize; places::MOST_PLANNED],
-    count: usize,
-    q: &mut [u32],
-) -> usize
-    requires well_formed { WellFormed p.now × Numbers p.now numbers.now count × (count ≤ most_planned) }
-    requires part_words_in_bounds { part_words ≤ length q.old }
-    ensures { (result ≤ length q.new) × Part p.now numbers.now count (take result q.new) }
+// Some messages of a problem as a problem of their own, in a buffer that the caller lends.
+pub fn part_of<'a>(p: &[u32], group: &Group, buffer: &'a mut [u32; PART_WORDS]) -> &'a [u32]
+    requires { WellFormed p.now × Numbers p.now group.now (length group.now) }
+    ensures { Part p.now group.now (length group.now) result.now }
 {
     let columns = words::columns_of(p);
-    let front = words::column_at(columns);
-    basics::copy_words(&p[..front], q);
-    q[words::MESSAGES] = count as u32;
-    let mut s = 0;
-    while s < count {
-        copy_message(p, numbers[s], s, q);
-        s += 1;
+    let numbers = group.numbers();
+    basics::copy_words(&p[..words::column_at(columns)], buffer);
+    buffer[words::MESSAGES] = numbers.len() as u32;
+    for (s, j) in numbers.iter().enumerate() {
+        copy_message(p, *j, s, buffer);
     }
-    words::message_at(columns, count)
+    &buffer[..words::message_at(columns, numbers.len())]
 }
 
 // One proposal of the kept placements and of a plan for the other messages.
 pub fn joined(
     kept: &[u32],
-    numbers: &[usize; places::MOST_PLANNED],
-    count: usize,
+    group: &Group,
     plan: &[u32; places::PLAN_WORDS],
     messages: usize,
 ) -> [u32; words::MOST_PROPOSAL]
     requires messages_le_most_messages { (messages ≤ most_messages) × (length kept.now ≡ 2 * messages) }
-    requires free { Free kept.now messages numbers.now count × (count ≤ most_planned) }
-    ensures joined { Joined kept.now numbers.now count plan.now messages result }
+    requires free { Free kept.now messages group.now (length group.now) }
+    ensures joined { Joined kept.now group.now (length group.now) plan.now messages result }
     ensures result_len { length result ≡ 2 * most_messages }
 {
     let mut w = [0u32; words::MOST_PROPOSAL];
     basics::copy_words(kept, &mut w);
-    let mut s = 0;
-    while s < count {
-        kept::put(&mut w, numbers[s], plan[2 * s], plan[2 * s + 1]);
-        s += 1;
+    for (s, j) in group.numbers().iter().enumerate() {
+        kept::put(&mut w, *j, plan[2 * s], plan[2 * s + 1]);
     }
     w
 }

@@ -1,16 +1,10 @@
 -- The columns that are set in none of some rows, row by row.
-use Prim.Native.Nat.{ℕ, suc, ◌+◌, ◌*◌, ◌-◌, ◌^◌, ◌≤◌, ◌<◌}
-use mathlib.Core.Path.{◌≡◌, ap, subst}
-use mathlib.Core.List.{List}
-use mathlib.Core.Logic.{⊎_elim}
-use native.Mathlib.Nat.{lt_of_mul-lt-mul_right}
-use native.Mathlib.Omega.{arith}
-use lib.Bits.{bit_and}
-use lib.ListN.{get_or}
+use Rattle.std.proofs.Common.{ℕ, suc, ◌+◌, ◌*◌, ◌-◌, ◌^◌, ◌≤◌, ◌<◌, ◌≡◌, ap, subst, List, ⊎_elim, arith, bit_and, get_or}
 use Rattle.basics.specs.Bits.{Has}
 use Rattle.basics.proofs.Bits.{bit_not, bit-two, and_both, and_left, and_right}
 use Rattle.basics.proofs.Tests.{below_or}
 use Rattle.rules.specs.Problem.{most_columns}
+use Rattle.row_words.proofs.Turns.{one-turn}
 use Rattle.row_words.specs.RowWords.{SetBefore, Without, FreeIn}
 
 -- ---- a word without the digits of another
@@ -39,12 +33,6 @@ freeing-none t r step rows x = record {
 }
 
 module _ {t : List ℕ} {r step rows x i y : ℕ} (f : Freeing t r step rows x i y) (some : 1 ≤ step) where
-  -- i is the row of this turn, and of no other
-  this-turn : (k : ℕ) → i ≤ r + k * step → r + k * step < i + step → k ≡ f.turn
-  this-turn k h l =
-      let at = f.now-at in
-      omega (arith, lt_of_mul-lt-mul_right step {m = k} {n = suc f.turn} (omega arith), lt_of_mul-lt-mul_right step {m = f.turn} {n = suc k} (omega arith))
-
   pub freeing-more : {z next : ℕ} → i < rows → Without y (get_or t i 0) z → next ≡ i + step → Freeing t r step rows x next z
   freeing-more {z} {next} li w en =
       let at = f.now-at in
@@ -56,7 +44,7 @@ module _ {t : List ℕ} {r step rows x i y : ℕ} (f : Freeing t r step rows x i
         unset = λ k c l u h g. ⊎_elim
             (λ e. f.unset k c l e (w.only c h) g)
             (λ e.
-            let here : r + k * step ≡ i = omega (arith, ap (◌* step) (this-turn k e (omega arith))) in
+            let here : r + k * step ≡ i = omega (arith, ap (◌* step) (one-turn r step f.turn k f.now-at e (omega arith))) in
             w.gone c l h (subst (λ (k : ℕ). Has (get_or t k 0) c) here g))
             (below_or (r + k * step) i);
       }

@@ -1,3 +1,4 @@
+mod Turns
 pub mod Marks
 pub mod Freeing
 pub mod Taking

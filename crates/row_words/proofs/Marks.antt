@@ -1,19 +1,10 @@
 -- A column set in rows r, r + step, .., row by row, and what was seen in their words before.
-use Prim.Native.Nat.{ℕ, suc, ◌+◌, ◌*◌, ◌≤◌, ◌<◌}
-use mathlib.Core.Path.{◌≡◌, sym, ap, subst, ◌∙◌}
-use mathlib.Core.Bool.{Bool}
-use mathlib.Core.List.{List}
-use mathlib.Core.Logic.{⊎_elim}
-use native.Mathlib.Nat.{lt_of_mul-lt-mul_right}
-use native.Mathlib.Omega.{arith}
-use lib.Bits.{bit_or}
-use lib.Dec.{eqb}
-use lib.ListN.{length, get_or, set}
-use borrow.Author.Tests.{eq-eqb, eqb-true}
+use Rattle.std.proofs.Common.{ℕ, ◌+◌, ◌*◌, ◌≤◌, ◌<◌, ◌≡◌, sym, ap, subst, ◌∙◌, Bool, List, ⊎_elim, arith, bit_or, eqb, length, get_or, set, eq-eqb, eqb-true}
 use Rattle.basics.specs.Bits.{Has, Joined, bit}
 use Rattle.basics.proofs.Bits.{has-none, has-or, or_left, or_right}
 use Rattle.basics.proofs.Strides.{Striding, striding-none, striding-more, striding-all, untouched}
 use Rattle.basics.proofs.Tests.{below_or}
+use Rattle.row_words.proofs.Turns.{one-turn}
 use Rattle.row_words.specs.RowWords.{SetBefore, Occupied}
 
 -- the words t in the rows before i have column c set, and are t' then; x has exactly the columns that were set in one of them
@@ -33,12 +24,6 @@ module _ {t t' : List ℕ} {c r step rows i x : ℕ} (m : Marking t c r step row
   was : get_or t' i 0 ≡ get_or t i 0
   was = untouched _ _ (λ x y e. e) m.marks some
 
-  -- i is the row of this turn, and of no other
-  this-turn : (k : ℕ) → i ≤ r + k * step → r + k * step < i + step → k ≡ m.marks.turn
-  this-turn k h l =
-      let at = m.marks.now-at in
-      omega (arith, lt_of_mul-lt-mul_right step {m = k} {n = suc m.marks.turn} (omega arith), lt_of_mul-lt-mul_right step {m = m.marks.turn} {n = suc k} (omega arith))
-
   pub marking-more : {y next : ℕ} → i < rows → i < length t' → Joined (get_or t' i 0) c y → next ≡ i + step → Marking t c r step rows next (bit_or x (get_or t' i 0)) (set t' i y)
   marking-more {y} {next} li fits j en =
       let at = m.marks.now-at in
@@ -51,7 +36,7 @@ module _ {t t' : List ℕ} {c r step rows i x : ℕ} (m : Marking t c r step row
         all = λ k d l h. ⊎_elim
             (λ g. or_left x (get_or t' i 0) d (m.all k d g h))
             (λ g.
-            let e : r + k * step ≡ i = omega (arith, ap (◌* step) (this-turn k g (omega arith))) in
+            let e : r + k * step ≡ i = omega (arith, ap (◌* step) (one-turn r step m.marks.turn k m.marks.now-at g (omega arith))) in
             or_right x (get_or t' i 0) d (rw was (subst (λ (k : ℕ). Has (get_or t k 0) d) e h)))
             (below_or (r + k * step) i);
       }

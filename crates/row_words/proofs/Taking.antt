@@ -1,12 +1,6 @@
 -- The row words, message by message: each marks its cells, and finds one of them set exactly where it meets an earlier one.
-use Prim.Native.Nat.{ℕ, ◌+◌, ◌*◌, ◌<◌}
-use mathlib.Core.Path.{◌≡◌, refl, sym, ◌∙◌}
-use mathlib.Core.Bool.{Bool, true, false}
-use mathlib.Core.List.{List}
-use mathlib.Core.Logic.{⊎_elim}
-use native.Mathlib.Nat.{eq-or-lt_of_le, le_of_suc-le-suc}
-use native.Mathlib.Omega.{arith}
-use lib.ListN.{get_or, replicate, length-replicate, get_or-replicate}
+use Rattle.std.proofs.Common.{ℕ, ◌+◌, ◌*◌, ◌<◌, ◌≡◌, refl, sym, ◌∙◌, Bool, true, false, List, ⊎_elim, eq-or-lt_of_le, le_of_suc-le-suc, arith, get_or, replicate}
+use lib.ListN.{length-replicate, get_or-replicate}
 use Rattle.basics.specs.Bits.{Has}
 use Rattle.basics.specs.Tests.{some}
 use Rattle.basics.proofs.Bits.{has-none}

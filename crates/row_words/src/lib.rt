@@ -21,13 +21,11 @@ pub fn occupy(
 {
     let column = c as u32;
     let mut seen: u32 = 0;
-    let mut i = r;
-    while i < rows {
+    for i in (r..rows).step_by(step) {
         let x = taken[i];
         let y = basics::with_bit(x, column);
-        seen = seen | x;
+        seen |= x;
         taken[i] = y;
-        i += step;
     }
     basics::has_bit(seen, column)
 }
@@ -45,10 +43,8 @@ pub fn free_in(taken: &[u32; words::MOST_ROWS], rows: usize, step: usize, r: usi
     ensures { FreeIn taken.now r step rows x result }
 {
     let mut free = x;
-    let mut row = r;
-    while row < rows {
+    for row in (r..rows).step_by(step) {
         free = without(free, taken[row]);
-        row += step;
     }
     free
 }
