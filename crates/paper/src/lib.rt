@@ -10,6 +10,23 @@ const IDENTIFIER_DIGITS: usize = 3;
 // The mark of a problem is shown with so many.
 const MARK_DIGITS: usize = 8;
 
+// A number that can be shown: a word of a problem, or a count.
+pub trait Number {
+    fn shown(self) -> u64;
+}
+
+impl Number for u32 {
+    fn shown(self) -> u64 {
+        u64::from(self)
+    }
+}
+
+impl Number for usize {
+    fn shown(self) -> u64 {
+        self as u64
+    }
+}
+
 // ---- the two streams
 
 // The system's numbers of them.
@@ -70,14 +87,10 @@ pub fn say(s: &[u8]) {
     Stream::Error.text(s);
 }
 
-// Writes text, and a count or a number behind it.
-pub fn say_count(s: &[u8], n: usize) {
+// Writes text, and a number behind it.
+pub fn say_count(s: &[u8], n: impl Number) {
     say(s);
-    Stream::Error.decimal(n as u64);
-}
-
-pub fn say_number(s: &[u8], n: u32) {
-    say_count(s, n as usize);
+    Stream::Error.decimal(n.shown());
 }
 
 // Writes text, and an identifier behind it.
@@ -123,24 +136,14 @@ pub fn line(s: &[u8]) {
 }
 
 // Writes a number in decimal.
-pub fn number(n: u32) {
-    count(n as usize);
+pub fn count(n: impl Number) {
+    Stream::Output.decimal(n.shown());
 }
 
-// Writes a count in decimal.
-pub fn count(n: usize) {
-    Stream::Output.decimal(n as u64);
-}
-
-// Writes text, and a count or a number behind it.
-pub fn text_count(s: &[u8], n: usize) {
+// Writes text, and a number behind it.
+pub fn text_count(s: &[u8], n: impl Number) {
     text(s);
     count(n);
-}
-
-pub fn text_number(s: &[u8], n: u32) {
-    text(s);
-    number(n);
 }
 
 // Writes so many things, of this name.
@@ -174,16 +177,11 @@ pub fn left_text(s: &[u8], columns: usize) {
     pad(s.len(), columns);
 }
 
-// Writes a count with spaces in front, so that it ends a column of so many characters.
-pub fn right_count(n: usize, columns: usize) {
-    let mut digits = [0u8; 20];
-    let k = io::decimal(n as u64, &mut digits);
-    right_text(&digits[..k], columns);
-}
-
 // Writes a number with spaces in front, so that it ends a column of so many characters.
-pub fn right(n: u32, columns: usize) {
-    right_count(n as usize, columns);
+pub fn right_count(n: impl Number, columns: usize) {
+    let mut digits = [0u8; 20];
+    let k = io::decimal(n.shown(), &mut digits);
+    right_text(&digits[..k], columns);
 }
 
 // All of something, in hundredths of a per cent.
@@ -245,7 +243,7 @@ fn word(n: u32, is_identifier: bool) {
     if is_identifier {
         right_hex(n as usize, 0);
     } else {
-        number(n);
+        count(n);
     }
 }
 
