@@ -1,6 +1,6 @@
 // What keeps a sheet from being read: the first slip in it, with the piece of the text that is wrong.
-ghost use Rattle.std.specs.Prelude.{◌≤◌, IfErr, length};
-ghost use Rattle.sheet.specs.Pieces.{PieceIn, SlipIn};
+ghost use Rattle.std.specs.Prelude.{◌≡◌, ◌+◌, ◌<◌, ◌≤◌, [], IfErr, MatchResult, length};
+ghost use Rattle.sheet.specs.Pieces.{PieceIn, OtherIn, SlipIn};
 
 use super::fields::{self, Field, field_named, fields_of};
 use super::reading::{self, Misnamed};
@@ -43,6 +43,13 @@ pub struct Slip {
     pub at: Piece,
 }
 
+// So much is wrong in a piece of a text.
+fn slip_at(wrong: Wrong, at: Piece) -> Slip
+    ensures { (result.wrong ≡ wrong) × (result.at ≡ at) }
+{
+    Slip { wrong, at }
+}
+
 // ---- names
 
 // Whether a name may begin with a character: with a letter, or one behind ASCII, but none that a terminal might obey and no no-break space.
@@ -64,89 +71,60 @@ fn is_name(name: &[u8]) -> bool {
 // ---- values
 
 // What is wrong with a name, which a record has whose line begins at a place.
-fn name_slip(text: &[u8], kind: Kind, line: usize, at: Piece) -> Result<(), Slip>
-    requires { PieceIn text.now at }
-    ensures { IfErr result (SlipIn text.now) }
+fn check_name(text: &[u8], kind: Kind, line: usize, name: &[u8]) -> Result<(), Wrong>
+    ensures { IfErr result (OtherIn text.now) }
 {
-    let name = &text[at.from..at.to];
     if !is_name(name) {
-        return Err(Slip {
-            wrong: Wrong::Name,
-            at,
-        });
+        return Err(Wrong::Name);
     }
     if MOST_NAME < name.len() {
-        return Err(Slip {
-            wrong: Wrong::Long,
-            at,
-        });
+        return Err(Wrong::Long);
     }
     match record_named(text, kind, name) {
-        Some(first) if first.from < line => Err(Slip {
-            wrong: Wrong::Taken(first.from),
-            at,
-        }),
+        Some(first) if first.from < line => Err(Wrong::Taken(first.from)),
         _ => Ok(()),
     }
 }
 
-// What is wrong with the number of a node.
-fn node_slip(text: &[u8], n: u32, line: usize, at: Piece) -> Result<(), Slip>
-    requires { PieceIn text.now at }
-    ensures { IfErr result (SlipIn text.now) }
+// What is wrong with the number of a node, whose line begins at a place.
+fn check_node(text: &[u8], n: u32, line: usize) -> Result<(), Wrong>
+    ensures { IfErr result (OtherIn text.now) }
 {
     if 15 < n {
-        return Err(Slip {
-            wrong: Wrong::Node,
-            at,
-        });
+        return Err(Wrong::Node);
     }
     match node(text, n) {
-        Some(first) if first.from < line => Err(Slip {
-            wrong: Wrong::NodeTaken(first.from),
-            at,
-        }),
+        Some(first) if first.from < line => Err(Wrong::NodeTaken(first.from)),
         _ => Ok(()),
     }
 }
 
-// What is wrong with a number.
-fn number_slip(text: &[u8], field: Field, line: usize, at: Piece) -> Result<(), Slip>
-    requires { PieceIn text.now at }
-    ensures { IfErr result (SlipIn text.now) }
+// What is wrong with a number, which a record has whose line begins at a place.
+fn check_number(text: &[u8], field: Field, line: usize, value: &[u8]) -> Result<(), Wrong>
+    ensures { IfErr result (OtherIn text.now) }
 {
-    let Some(n) = fields::number_in(&text[at.from..at.to]) else {
-        return Err(Slip {
-            wrong: Wrong::Number,
-            at,
-        });
+    let Some(n) = fields::number_in(value) else {
+        return Err(Wrong::Number);
     };
     match field {
-        Field::Number => node_slip(text, n, line, at),
-        Field::Version if n != 1 && n != 2 => Err(Slip {
-            wrong: Wrong::Version,
-            at,
-        }),
+        Field::Number => check_node(text, n, line),
+        Field::Version if n != 1 && n != 2 => Err(Wrong::Version),
         _ => Ok(()),
     }
 }
 
 // What is wrong with the name of a sender.
-fn sender_slip(text: &[u8], at: Piece) -> Result<(), Slip>
-    requires { PieceIn text.now at }
-    ensures { IfErr result (SlipIn text.now) }
+fn check_sender(text: &[u8], name: &[u8]) -> Result<(), Wrong>
+    ensures { IfErr result (OtherIn text.now) }
 {
-    match reading::node_number(text, &text[at.from..at.to]) {
+    match reading::node_number(text, name) {
         Some(n) if n < 16 => Ok(()),
-        _ => Err(Slip {
-            wrong: Wrong::Unknown,
-            at,
-        }),
+        _ => Err(Wrong::Unknown),
     }
 }
 
-// What is wrong with the names of receivers.
-fn receivers_slip(text: &[u8], at: Piece) -> Result<(), Slip>
+// What is wrong with the names of receivers, which stand in a piece of a text.
+fn check_receivers(text: &[u8], at: Piece) -> Result<(), Slip>
     requires { PieceIn text.now at }
     ensures { IfErr result (SlipIn text.now) }
 {
@@ -154,68 +132,72 @@ fn receivers_slip(text: &[u8], at: Piece) -> Result<(), Slip>
     if reading::is_none(list) {
         return Ok(());
     }
-    let (wrong, part) = match reading::receivers(text, list) {
+    let (wrong, name) = match reading::receivers(text, list) {
         Ok(_) => return Ok(()),
-        Err(Misnamed::Unknown(part)) => (Wrong::Unknown, part),
-        Err(Misnamed::Again(part)) => (Wrong::Again, part),
+        Err(Misnamed::Unknown(name)) => (Wrong::Unknown, name),
+        Err(Misnamed::Again(name)) => (Wrong::Again, name),
     };
-    Err(Slip {
-        wrong,
-        at: Piece {
-            from: at.from + part.from,
-            to: at.from + part.to,
-        },
-    })
+    let from = at.from + name.from;
+    let to = at.from + name.to;
+    Err(slip_at(wrong, Piece { from, to }))
 }
 
-// What is wrong with the value of a field.
-fn value_slip(text: &[u8], kind: Kind, field: Field, line: usize, at: Piece) -> Result<(), Slip>
+// What is wrong with the value of a field, which stands in a piece of a text.
+fn check_value(text: &[u8], kind: Kind, field: Field, line: usize, at: Piece) -> Result<(), Slip>
     requires { PieceIn text.now at }
     ensures { IfErr result (SlipIn text.now) }
 {
-    match field {
-        Field::Name => name_slip(text, kind, line, at),
-        Field::Sender => sender_slip(text, at),
-        Field::Receivers => receivers_slip(text, at),
-        _ => number_slip(text, field, line, at),
-    }
+    let value = &text[at.from..at.to];
+    let checked = match field {
+        Field::Receivers => return check_receivers(text, at),
+        Field::Name => check_name(text, kind, line, value),
+        Field::Sender => check_sender(text, value),
+        _ => check_number(text, field, line, value),
+    };
+    checked.map_err(|wrong| slip_at(wrong, at))
 }
 
 // ---- lines
 
-// What is wrong with a word of a record, whose line begins at a place.
-fn word_slip(text: &[u8], kind: Kind, line: usize, at: Piece) -> Result<(), Slip>
-    requires { PieceIn text.now at × (line ≤ at.from) }
-    ensures { IfErr result (SlipIn text.now) }
+// The field that a word of a record names, and where its sign = stands; the record has some fields before it.
+fn check_field(kind: Kind, before: &[u8], word: &[u8]) -> Result<(Field, usize), Wrong>
+    ensures { MatchResult result (λ found. found.1 + 1 < length word.now) (OtherIn []) }
 {
-    let word = &text[at.from..at.to];
     let Some(sign) = word.iter().position(|b| *b == b'=') else {
-        return Err(Slip {
-            wrong: Wrong::Form,
-            at,
-        });
+        return Err(Wrong::Form);
     };
     let field = match field_named(&word[..sign]) {
         Some(field) if fields_of(kind).contains(&field) => field,
-        _ => return Err(Slip {
-            wrong: Wrong::Field,
-            at,
-        }),
+        _ => return Err(Wrong::Field),
     };
-    if fields::value(&text[line..at.from], field).is_some() {
-        return Err(Slip {
-            wrong: Wrong::Twice,
-            at,
-        });
+    if fields::value(before, field).is_some() {
+        return Err(Wrong::Twice);
     }
-    let from = at.from + sign + 1;
-    if from == at.to {
-        return Err(Slip {
-            wrong: Wrong::Empty,
-            at,
-        });
+    if word.len() == sign + 1 {
+        return Err(Wrong::Empty);
     }
-    value_slip(text, kind, field, line, Piece { from, to: at.to })
+    Ok((field, sign))
+}
+
+// What is wrong with a word of a record, whose line begins at a place.
+fn check_word(text: &[u8], kind: Kind, line: usize, word: Piece) -> Result<(), Slip>
+    requires { PieceIn text.now word × (line ≤ word.from) }
+    ensures { IfErr result (SlipIn text.now) }
+{
+    let (from, to) = (word.from, word.to);
+    match check_field(kind, &text[line..from], &text[from..to]) {
+        Ok((field, sign)) => check_value(
+            text,
+            kind,
+            field,
+            line,
+            Piece {
+                from: from + sign + 1,
+                to,
+            },
+        ),
+        Err(wrong) => Err(slip_at(wrong, word)),
+    }
 }
 
 // The first field of a kind that a line does not have; the version may be left out.
@@ -235,53 +217,40 @@ fn most_of(kind: Kind) -> usize {
 }
 
 // What is wrong with the fields of a record, whose line is a piece and whose first word ends at a place.
-fn fields_slip(text: &[u8], kind: Kind, line: Piece, from: usize) -> Result<(), Slip>
+fn check_fields(text: &[u8], kind: Kind, line: Piece, from: usize) -> Result<(), Slip>
     requires { PieceIn text.now line × (line.from ≤ from) × (from ≤ line.to) }
     ensures { IfErr result (SlipIn text.now) }
 {
     let mut at = from;
     while let Some(word) = word_from(&text[..line.to], at) {
-        word_slip(text, kind, line.from, word)?;
+        check_word(text, kind, line.from, word)?;
         at = word.to;
     }
     match missing(kind, &text[line.from..line.to]) {
-        Some(field) => Err(Slip {
-            wrong: Wrong::Missing(field),
-            at: line,
-        }),
+        Some(field) => Err(slip_at(Wrong::Missing(field), line)),
         None => Ok(()),
     }
 }
 
-// What is wrong with a record, whose line is a piece and whose first word ends at a place.
-fn record_slip(text: &[u8], kind: Kind, line: Piece, from: usize) -> Result<(), Slip>
-    requires { PieceIn text.now line × (line.from ≤ from) × (from ≤ line.to) }
-    ensures { IfErr result (SlipIn text.now) }
-{
-    if most_of(kind) <= count_of(&text[..line.from], kind) {
-        return Err(Slip {
-            wrong: Wrong::Surplus,
-            at: Piece { from, to: line.to },
-        });
-    }
-    fields_slip(text, kind, line, from)
-}
-
 // What is wrong with a line.
-fn line_slip(text: &[u8], line: Piece) -> Result<(), Slip>
+fn check_line(text: &[u8], line: Piece) -> Result<(), Slip>
     requires { PieceIn text.now line }
     ensures { IfErr result (SlipIn text.now) }
 {
     let Some(word) = word_from(&text[..line.to], line.from) else {
         return Ok(());
     };
-    match kind_of(&text[word.from..word.to]) {
-        Some(kind) => record_slip(text, kind, line, word.to),
-        None => Err(Slip {
-            wrong: Wrong::Line,
-            at: word,
-        }),
+    let Some(kind) = kind_of(&text[word.from..word.to]) else {
+        return Err(slip_at(Wrong::Line, word));
+    };
+    if most_of(kind) <= count_of(&text[..line.from], kind) {
+        let rest = Piece {
+            from: word.to,
+            to: line.to,
+        };
+        return Err(slip_at(Wrong::Surplus, rest));
     }
+    check_fields(text, kind, line, word.to)
 }
 
 // The first slip of a sheet, if it has one.
@@ -291,14 +260,11 @@ pub fn slip_of(text: &[u8]) -> Result<(), Slip>
     let mut from = front(text);
     for line in text[from..].split_inclusive(ends_line) {
         let to = from + line.len();
-        line_slip(text, Piece { from, to })?;
+        check_line(text, Piece { from, to })?;
         from = to;
     }
     if count_of(text, Kind::Matrix) == 0 {
-        return Err(Slip {
-            wrong: Wrong::NoMatrix,
-            at: Piece { from: 0, to: 0 },
-        });
+        return Err(slip_at(Wrong::NoMatrix, Piece { from: 0, to: 0 }));
     }
     Ok(())
 }
