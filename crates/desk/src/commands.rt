@@ -160,7 +160,7 @@ fn show_times(rt: &impl Env, events: &[u32], text: &[u8]) {
         Responded::Done(misses) => {
             say_met(misses);
             tables::events(events);
-            paper::text_number(b"deadlines missed: ", misses);
+            paper::text_count(b"deadlines missed: ", misses);
             paper::end_line();
         }
     }
@@ -316,7 +316,7 @@ fn keep<R: Env + Files>(rt: &R, bytes: &[u8], layout: Layout) {
         return;
     }
     paper::say(b"done\n");
-    paper::text_number(b"version ", version_of(layout));
+    paper::text_count(b"version ", version_of(layout));
     paper::text_count(b", ", bytes.len());
     paper::line(b" bytes");
 }

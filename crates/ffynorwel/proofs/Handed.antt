@@ -19,7 +19,7 @@ use Rattle.response.specs.Promise.{Responding}
 use Rattle.response.proofs.Results.{responding-one}
 use Rattle.versions.specs.Promise.{Raising, Lowering}
 use Rattle.versions.proofs.Moving.{up_one, back_one}
-use Rattle.ffynorwel.specs.Eight.{read_words, written_words, moved_words, judged_words, listed_words, held_words, due_words, planned_words, responded_words}
+use Rattle.ffynorwel.specs.Eight.{count_words, judged_words, held_words}
 use Rattle.ffynorwel.specs.Handed.{Handed}
 
 -- the call answered r, which is s, and the words of s were stored
@@ -37,22 +37,22 @@ module _ {A B : Type 0} {P Q : A → Type 0} {words : A → List ℕ} {x y : Lis
   handed-both both a b = (handed-one (λ r s p q. (both r s p q).0) a b, (both _ _ a.promised b.promised).1)
 
 module _ (f d : List ℕ) {e g x y : List ℕ} where
-  pub ffy-read-one : Handed (Reading f d e) read_words x → Handed (Reading f d g) read_words y → (x ≡ y) × (e ≡ g)
+  pub ffy-read-one : Handed (Reading f d e) count_words x → Handed (Reading f d g) count_words y → (x ≡ y) × (e ≡ g)
   ffy-read-one = handed-both (λ r s a b. read_one f d e g r s a b)
 
-  pub ffy-write-one : Handed (Writing f d e) written_words x → Handed (Writing f d g) written_words y → (x ≡ y) × (e ≡ g)
+  pub ffy-write-one : Handed (Writing f d e) count_words x → Handed (Writing f d g) count_words y → (x ≡ y) × (e ≡ g)
   ffy-write-one = handed-both (λ r s a b. write-one f d e g r s a b)
 
-  pub ffy-up-one : Handed (Raising f d e) moved_words x → Handed (Raising f d g) moved_words y → (x ≡ y) × (e ≡ g)
+  pub ffy-up-one : Handed (Raising f d e) count_words x → Handed (Raising f d g) count_words y → (x ≡ y) × (e ≡ g)
   ffy-up-one = handed-both (λ r s a b. up_one f a b)
 
-  pub ffy-back-one : Handed (Lowering f d e) moved_words x → Handed (Lowering f d g) moved_words y → (x ≡ y) × (e ≡ g)
+  pub ffy-back-one : Handed (Lowering f d e) count_words x → Handed (Lowering f d g) count_words y → (x ≡ y) × (e ≡ g)
   ffy-back-one = handed-both (λ r s a b. back_one f a b)
 
-  pub ffy-plan-one : Handed (Planning f d e) planned_words x → Handed (Planning f d g) planned_words y → (x ≡ y) × (e ≡ g)
+  pub ffy-plan-one : Handed (Planning f d e) count_words x → Handed (Planning f d g) count_words y → (x ≡ y) × (e ≡ g)
   ffy-plan-one = handed-both (λ r s a b. planning-one a b)
 
-  pub ffy-responses-one : Handed (Responding f d e) responded_words x → Handed (Responding f d g) responded_words y → (x ≡ y) × (e ≡ g)
+  pub ffy-responses-one : Handed (Responding f d e) count_words x → Handed (Responding f d g) count_words y → (x ≡ y) × (e ≡ g)
   ffy-responses-one = handed-both (λ r s a b. responding-one a b)
 
 module _ {f w x y : List ℕ} where
@@ -60,10 +60,10 @@ module _ {f w x y : List ℕ} where
   ffy-judge-one = handed-one (λ r s a b. judging-one a b)
 
 module _ (f w d : List ℕ) {e g x y : List ℕ} where
-  pub ffy-lists-one : Handed (Listing f w d e) listed_words x → Handed (Listing f w d g) listed_words y → (x ≡ y) × (e ≡ g)
+  pub ffy-lists-one : Handed (Listing f w d e) count_words x → Handed (Listing f w d g) count_words y → (x ≡ y) × (e ≡ g)
   ffy-lists-one = handed-both (λ r s a b. listing-one f w d a b)
 
-  pub ffy-replan-one : Handed (Replanning f w d e) planned_words x → Handed (Replanning f w d g) planned_words y → (x ≡ y) × (e ≡ g)
+  pub ffy-replan-one : Handed (Replanning f w d e) count_words x → Handed (Replanning f w d g) count_words y → (x ≡ y) × (e ≡ g)
   ffy-replan-one = handed-both (λ r s a b. replanning-one a b)
 
 module _ (f w log : List ℕ) (span : ℕ) {x y : List ℕ} where
@@ -71,5 +71,5 @@ module _ (f w log : List ℕ) (span : ℕ) {x y : List ℕ} where
   ffy-hold-one = handed-one (λ r s a b. holding-one f w log span a b)
 
 module _ (f w : List ℕ) (span : ℕ) (d : List ℕ) {e g x y : List ℕ} where
-  pub ffy-due-one : Handed (DueWritten f w span d e) due_words x → Handed (DueWritten f w span d g) due_words y → (x ≡ y) × (e ≡ g)
+  pub ffy-due-one : Handed (DueWritten f w span d e) count_words x → Handed (DueWritten f w span d g) count_words y → (x ≡ y) × (e ≡ g)
   ffy-due-one = handed-both (λ r s a b. due-written-one f w span d a b)

@@ -109,7 +109,7 @@ fn show_difference(p: &[u32], w: &[u32], log: &[u32], d: Difference)
     requires { WellFormed p.now }
 {
     paper::say(b"differs\n");
-    paper::text_number(b"differs at pair ", d.index);
+    paper::text_count(b"differs at pair ", d.index);
     paper::line(b", counted from 0");
     show_logged(p, log, d.index as usize);
     paper::text(b"due there:  ");

@@ -10,12 +10,12 @@ use std::io::{Cursor, Error, Read, Result, Write};
 use std::rt::{Env, Files};
 use std::str;
 
-// What the system says of an argument that is missing, and of one that is longer than its buffer.
+// The system's own numbers of what it says of an argument that is missing, and of one that is longer than its buffer.
 const INVALID: i32 = 22;
 
 const TOO_LONG: i32 = 36;
 
-// What the system says of bytes that are no text.
+// And of bytes that are no text.
 const NO_TEXT: i32 = 84;
 
 // ---- arguments

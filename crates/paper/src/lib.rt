@@ -158,7 +158,7 @@ pub fn spaces(n: usize) {
     }
 }
 
-// Writes the spaces that are left of so many characters behind a text of this length.
+// Writes the spaces that are left of so many characters behind a text of this length. The test, and not saturating_sub, is what must-fail/too_wide.edit turns round.
 fn pad(length: usize, columns: usize) {
     if length < columns {
         spaces(columns - length);
@@ -192,7 +192,7 @@ fn digit(n: usize) -> u8 {
     b'0' + (n % 10) as u8
 }
 
-// The two decimals of hundredths of a per cent, as they stand behind the whole per cents.
+// The two decimals of hundredths of a per cent, as they stand behind the whole per cents; by digits, as `write!` would ask for a buffer and a failure to answer for.
 fn decimals(hundredths: usize) -> [u8; 5]
     ensures { 5 ≡ length result }
 {

@@ -30,10 +30,7 @@ pub fn said_for(n: usize, k: usize, m: usize) -> usize
 fn said_kind(from: &[u32]) -> u32
     ensures { result ≡ get_or from.now 2 0 }
 {
-    if from.len() <= words::KIND {
-        return 0;
-    }
-    from[words::KIND]
+    from.get(words::KIND).copied().unwrap_or(0)
 }
 
 // A column's words, as many as there is room for.
@@ -54,12 +51,10 @@ fn recast_columns(part: &[u32], a: usize, b: usize, k: usize, out: &mut [u32])
     requires { (a * k ≤ length part.now) × (b * k ≤ length out.old) × (2 ≤ a) × (a ≤ 3) × (2 ≤ b) × (b ≤ 3) × (k ≤ 32) }
     ensures { Turned (front b) a b part.now out.old k out.new }
 {
-    let mut c: usize = 0;
-    while c < k {
+    for c in 0..k {
         let from = a * c;
         let to = b * c;
         recast_column(&part[from..from + a], &mut out[to..to + b]);
-        c += 1;
     }
 }
 

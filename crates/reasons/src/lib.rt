@@ -17,7 +17,7 @@ use wordlist::lines;
 // How a line begins: with the number.
 fn begin(q: Refusal) {
     let told = rules::paper_of(q);
-    paper::say_number(b"refused ", told.number);
+    paper::say_count(b"refused ", told.number);
 }
 
 // ---- lines

@@ -3,7 +3,7 @@
 
 mod group;
 
-ghost use Rattle.std.specs.Prelude.{◌≡◌, ◌+◌, ◌*◌, ◌<◌, ◌≤◌, MatchResult, length};
+ghost use Rattle.std.specs.Prelude.{◌≡◌, ◌+◌, ◌*◌, ◌<◌, ◌≤◌, IfOk, MatchResult, length};
 ghost use Rattle.rules.specs.Problem.{WellFormed, messages as messageCount, most_messages};
 ghost use Rattle.rules.specs.declared.Refusal.TheVariants.{TooMany};
 ghost use Rattle.places.specs.Places.{most_planned};
@@ -34,7 +34,8 @@ pub fn free_count(kept: &[u32], messages: usize) -> usize
 // The messages without a kept placement, in file order, unless there are more than are planned.
 pub fn free_of(kept: &[u32], messages: usize) -> Result<Group, Refusal>
     requires { (messages ≤ most_messages) × (length kept.now ≡ 2 * messages) }
-    ensures { MatchResult result (λ g. Free kept.now messages g (length g) × (length g ≡ free_of kept.now messages)) (λ q. (q ≡ TooMany) × (most_planned < free_of kept.now messages)) }
+    ensures free { IfOk result (λ g. Free kept.now messages g (length g)) }
+    ensures count { MatchResult result (λ g. length g ≡ free_of kept.now messages) (λ q. (q ≡ TooMany) × (most_planned < free_of kept.now messages)) }
 {
     if places::MOST_PLANNED < free_count(kept, messages) {
         return Err(Refusal::TooMany);

@@ -24,7 +24,8 @@ module _ {t t' : List ℕ} {c r step rows i x : ℕ} (m : Marking t c r step row
   was : get_or t' i 0 ≡ get_or t i 0
   was = untouched _ _ (λ x y e. e) m.marks some
 
-  pub marking-more : {y next : ℕ} → i < rows → i < length t' → Joined (get_or t' i 0) c y → next ≡ i + step → Marking t c r step rows next (bit_or x (get_or t' i 0)) (set t' i y)
+  pub marking-more : {y next : ℕ} → i < rows → i < length t' → Joined (get_or t' i 0) c y → next ≡ i + step
+      → Marking t c r step rows next (bit_or x (get_or t' i 0)) (set t' i y)
   marking-more {y} {next} li fits j en =
       let at = m.marks.now-at in
       record {

@@ -83,7 +83,7 @@ pub fn end_refused(q: Refusal, wanted: [u32; 3]) {
     let told = rules::paper_of(q);
     let is = [told.number, told.place, told.second];
     paper::text(b"refused ");
-    paper::number(is[0]);
+    paper::count(is[0]);
     paper::text(b", places ");
     paper::words(&is[1..]);
     end(is_same(&is, &wanted));
@@ -239,7 +239,7 @@ pub fn responses(title: &[u8], events: &[u8], wanted: &[u8], misses: u32) {
             let came = front(&times, n / EVENT_WORDS);
             paper::words(came);
             paper::text(b", missed ");
-            paper::number(missed);
+            paper::count(missed);
             end(is_text(came, wanted) & (missed == misses));
         }
         Responded::Refused(q) => end_refused(q, NONE),

@@ -273,7 +273,7 @@ pub fn name(call: u8) {
         REPLAN => paper::text(b"replan"),
         _ => {
             paper::text(b"call ");
-            paper::number(u32::from(call));
+            paper::count(u32::from(call));
         }
     }
 }

@@ -34,7 +34,7 @@ enum Ran {
 fn start_line(name: &[u8], at: u32) {
     paper::text(name);
     paper::text(b": case ");
-    paper::number(at);
+    paper::count(at);
 }
 
 // Says why the cases end here.
@@ -266,9 +266,9 @@ fn end_file<F: Read>(file: &mut F, name: &[u8], cases: u32, agree: u32) {
         paper::text(name);
     }
     paper::text(b": ");
-    paper::number(cases);
+    paper::count(cases);
     paper::text(b" cases, ");
-    paper::number(agree);
+    paper::count(agree);
     paper::text(b" agree\n");
 }
 

@@ -42,7 +42,7 @@ fn receivers(mask: u32) {
     while n < words::NODES {
         if basics::has_bit(mask, n) {
             paper::text(b" ");
-            paper::number(n);
+            paper::count(n);
         }
         n += 1;
     }
@@ -170,7 +170,7 @@ fn loss(name: &[u8], figure: u32, whole: usize)
     requires { 1 ≤ whole }
 {
     paper::left_text(name, 12);
-    paper::right(figure, 9);
+    paper::right_count(figure, 9);
     paper::right_per_cent(share(figure, whole), 6);
     paper::end_line();
 }
@@ -197,10 +197,10 @@ fn event(e: &[u32], worst: Worst)
 {
     let deadline = e[response::DEADLINE];
     paper::right_hex(e[response::IDENTIFIER] as usize, 6);
-    paper::right(e[response::DATA], 6);
-    paper::right(e[response::PERIOD], 9);
-    paper::right(e[response::JITTER], 9);
-    paper::right(deadline, 9);
+    paper::right_count(e[response::DATA], 6);
+    paper::right_count(e[response::PERIOD], 9);
+    paper::right_count(e[response::JITTER], 9);
+    paper::right_count(deadline, 9);
     paper::right_count(worst.response, 10);
     paper::right_count(worst.instance, 9);
     paper::right_count(worst.span, 10);
@@ -230,9 +230,9 @@ pub fn events(e: &[u32])
 fn entry(e: &[u32])
     requires { entry_words ≤ length e.now }
 {
-    paper::right(e[1], 6);
-    paper::right(e[2], 5);
-    paper::right(e[3], 7);
+    paper::right_count(e[1], 6);
+    paper::right_count(e[2], 5);
+    paper::right_count(e[3], 7);
     let kind = e[0] / KIND_WEIGHT;
     if kind == 0 {
         paper::text(b"  reference ");
@@ -291,7 +291,7 @@ fn list(lists: &[u32], n: usize)
     paper::text(b"node ");
     paper::count(n);
     paper::text(b", triggers: ");
-    paper::number(count);
+    paper::count(count);
     paper::line(b"\n  mark  row repeat  what");
     entries(&lists[from..to]);
 }

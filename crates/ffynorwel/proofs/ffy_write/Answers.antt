@@ -1,0 +1,11 @@
+-- The answer that was given is the one that is stored; its count fits a word.
+use Rattle.std.proofs.Common.{refl}
+use Rattle.ffynorwel.proofs.Counts.{write-fits}
+use Rattle.ffynorwel.proofs.Handed.{handed}
+use Rattle.ffynorwel.proofs.ffy_write.Goals as goal
+
+pub store_count-requires : goal.store_count-requires
+store_count-requires c = write-fits _ c.write.ensures
+
+pub returns : goal.returns
+returns c = handed c.write.ensures refl c.store_count.ensures
