@@ -58,14 +58,14 @@ pub fn range(name: &[u8], n: u32, low: u32, high: u32) {
 
 // An identifier that must be in its range.
 pub fn identifier(name: &[u8], id: u32) {
-    paper::say_hex(name, id);
-    paper::say_hex(b"; it must be ", 0u32);
-    paper::say_hex(b" to ", MOST_IDENTIFIER);
+    paper::say_hex(name, id as usize);
+    paper::say_hex(b"; it must be ", 0);
+    paper::say_hex(b" to ", MOST_IDENTIFIER as usize);
 }
 
 // An identifier that something before has too.
 pub fn taken(id: u32, thing: &[u8], i: u32) {
-    paper::say_hex(b"identifier ", id);
+    paper::say_hex(b"identifier ", id as usize);
     paper::say_count(thing, i);
     paper::say(b" has it too, and each must have its own");
 }

@@ -3,7 +3,6 @@ ghost use Rattle.std.specs.Prelude.{◌<◌, ◌≤◌, length};
 ghost use Rattle.problem.specs.File.{head_bytes};
 
 use super::fields::{identifier, range, value, word};
-
 use problem::layout::{bytes_for, is_version, version_of};
 use rules::words;
 use wordlist::lines;
@@ -180,7 +179,10 @@ pub fn file_number(file: &[u8], at: u32)
     paper::say_count(b", byte ", at);
     if at as usize == problem::LAST_AT {
         paper::say(b": ");
-        value(b"the last byte of the header", u32::from(file[problem::LAST_AT]));
+        value(
+            b"the last byte of the header",
+            u32::from(file[problem::LAST_AT]),
+        );
         paper::say(b"0");
         return;
     }

@@ -14,7 +14,7 @@ use problem::HEAD_BYTES;
 use rules::{Paper, Refusal};
 
 // A message or an event, by its place and its identifier.
-pub fn name(thing: &[u8], j: impl Number, identifier: impl Number) {
+pub fn name(thing: &[u8], j: impl Number, identifier: usize) {
     paper::say_count(thing, j);
     paper::say_hex(b" (", identifier);
     paper::say(b")");

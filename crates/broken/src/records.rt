@@ -1,5 +1,5 @@
 // What is wrong with a column, a message or a node of a problem's words: first which rule is broken, then where, and what is said of it.
-ghost use Rattle.std.specs.Prelude.{◌<◌, ◌≤◌, length};
+ghost use Rattle.std.specs.Prelude.{◌≡◌, ◌<◌, ◌≤◌, length, get_or};
 ghost use Rattle.problem.specs.File.{head_bytes};
 ghost use Rattle.origin.specs.Standing.{HasWord};
 ghost use Rattle.broken.specs.Said.{AsSaid};
@@ -60,7 +60,8 @@ impl MessageRule {
         ensures { result < 7 }
     {
         match self {
-            MessageRule::Identifier | MessageRule::Reference | MessageRule::Taken => words::IDENTIFIER,
+            MessageRule::Identifier | MessageRule::Reference | MessageRule::Taken =>
+                words::IDENTIFIER,
             MessageRule::Sender => words::SENDER,
             MessageRule::Data => words::SIZE,
             MessageRule::Receivers | MessageRule::Own => words::RECEIVERS,
@@ -83,6 +84,7 @@ impl<'a> Problem<'a> {
     // Word k of the header.
     fn header(&self, k: usize) -> u32
         requires { k < 7 }
+        ensures { result ≡ get_or self.now.words.now k 0 }
     {
         self.words[k]
     }
@@ -200,7 +202,9 @@ impl<'a> Problem<'a> {
 
     // A kind that there is not, in a text whose count of words says that its columns have one: perhaps they were not to have one.
     fn miscounted(&self, kind: u32) {
-        if let Given::Text(..) = self.given && 1 < kind {
+        if let Given::Text(..) = self.given
+            && 1 < kind
+        {
             paper::say(
                 b"; so many words are version 2, with three for a column: if two were meant, columns or messages are miscounted",
             );
@@ -257,7 +261,8 @@ impl<'a> Problem<'a> {
     // Message j, which breaks a rule.
     fn message(&self, rule: MessageRule, j: u32) {
         self.place(Word::Message(j, rule.word()));
-        name(b", message ", j, self.messages().field(j, words::IDENTIFIER));
+        let id = self.messages().field(j, words::IDENTIFIER);
+        name(b", message ", j, id as usize);
         paper::say(b": ");
         self.rule(rule, j);
     }
@@ -314,7 +319,7 @@ fn of_kind(n: u32) {
 
 // An identifier that the reference message has.
 fn reference(id: u32) {
-    paper::say_hex(b"identifier ", id);
+    paper::say_hex(b"identifier ", id as usize);
     paper::say(b"; the reference message has it, and each must have its own");
 }
 
