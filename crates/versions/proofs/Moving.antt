@@ -1,17 +1,17 @@
--- What shows the promises of up and back, that each settles its answer, and that there and back gives the old bytes.
+-- The promises of up and back settle their answers, and there and back gives the old bytes.
 use Prim.Native.Nat.{ℕ, ◌≤◌}
-use mathlib.Core.Path.{◌≡◌, refl, sym, ap, ◌∙◌}
+use mathlib.Core.Path.{◌≡◌, sym, ap, ◌∙◌}
 use mathlib.Core.List.{List, ◌++◌}
-use borrow.Author.Tests.{eq-eqb, ne_eqb, le-ltb, eqb-true}
+use borrow.Author.Tests.{eq-eqb, le-ltb, eqb-true}
 use lib.ListN.{length, take, drop}
 use lib.Seq.{take_at}
+use Rattle.std.specs.Prelude.{Ok}
 use Rattle.basics.proofs.Runs.{Small}
-use Rattle.rules.specs.declared.Refusal.{Refusal}
-use Rattle.rules.specs.declared.Refusal.TheVariants.{Version}
-use Rattle.rules.specs.Paper.{Answers, room_fault, Answer, count_of, paper}
+use Rattle.rules.specs.Refusal.{Fault}
+use Rattle.rules.specs.Paper.{Answer, Answers}
 use Rattle.rules.specs.Problem.{WellFormed}
 use Rattle.rules.proofs.Faults.{clear_both, clear-test}
-use Rattle.rules.proofs.Told.{Told, answered, refusing, told-one, answers_one, answers-clear, answers-refused}
+use Rattle.rules.proofs.Told.{answered, told, told-one, answers_one, answers-clear}
 use Rattle.problem.specs.declared.layout.Layout.{Layout}
 use Rattle.problem.specs.declared.layout.Layout.TheVariants.{One, Two}
 use Rattle.problem.specs.Layout.{version, layout_of}
@@ -20,50 +20,14 @@ use Rattle.problem.specs.Wrong.{file_fault, held_fault}
 use Rattle.problem.proofs.Layouts.{layout-found}
 use Rattle.problem.proofs.Wrong.{file-formed, formed-held, held_kept}
 use Rattle.problem.proofs.RoundTrip.{write_read, read-written}
-use Rattle.reader.specs.Promise.{Opened, Decoded}
-use Rattle.reader.proofs.Decoding.{answered-bad, answered-words}
-use Rattle.writer.specs.Promise.{Laying}
-use Rattle.versions.specs.Promise.{open_fault, OpenedAs, OpenedIn, Raising, Lowering}
-use Rattle.std.specs.Prelude.{Err, Ok}
-use Rattle.rules.specs.Refusal.{Fault}
-
--- ---- a file is opened, if it is of that version
-module _ (L : Layout) {f e : List ℕ} {r : Answer} (d : Decoded f e r) where
-  pub open-refused : {q : Refusal} → r ≡ Err q → OpenedIn L f e r
-  open-refused {q} is = answered-bad q is (rw (d.refuses q is))
-
-  module _ {n v w : ℕ} (is : r ≡ Ok n) (ev : v ≡ version_in f) (ew : w ≡ version L) where
-    pub open-other : (v ≡ w → ⊥) → OpenedIn L f e (Err Version)
-    open-other h = answered-bad Version refl (rw ((d.opens n is).clear, ne_eqb (version_in f) (version L) (λ x. h (ev ∙ x ∙ sym ew))))
-
-    pub open-this : v ≡ w → OpenedIn L f e r
-    open-this h = answered-words n is record {
-      clear = rw ((d.opens n is).clear, eq-eqb (version_in f) (version L) (sym ev ∙ h ∙ ew));
-      opened = d.opens n is;
-    }
-
--- ---- what the writer answers is the answer of the move
-pub moved-laid : (L : Layout) {f b d e : List ℕ} {n : ℕ} {w : Answer} {r : Answer} {x : Fault} → Opened f b n → Laying L (take n b) d e w
-    → (paper r ≡ paper w) × (count_of r ≡ count_of w) → x ≡ room_fault (length (file_of L (words_of f))) (length d)
-    → Answers x (file_of L (words_of f)) d e r
-moved-laid L {f} {d = d} {e = e} {w = w} o h s is =
-    let h' : Laying L (words_of f) d e w = rw o.front at h in
-    record { paper-is = s.0 ∙ h'.paper-is ∙ rw is; count-is = s.1 ∙ h'.count-is ∙ rw is; buffer-is = h'.buffer-is ∙ rw is }
-
--- ---- what version 1 has no room for is refused
-pub lowering-unheld : {f d b : List ℕ} {n : ℕ} {x : Fault} {q : Refusal} → OpenedAs Two f b n → x ≡ held_fault One (take n b) → x ≡ Err q → Lowering f d d (Err q)
-lowering-unheld {q = q} o e h = answers-refused q refl refl (rw (o.clear, ← o.opened.front, ← e, h))
+use Rattle.versions.specs.Promise.{open_fault, Raising, Lowering}
 
 -- ---- two results that a promise allows are equal
-told : (r : Answer) → Told Ok Err r (paper r) (count_of r)
-told (Ok n) = answered n
-told (Err q) = refusing q 0
-
 pub up_one : (f : List ℕ) {d e g : List ℕ} {r s : Answer} → Raising f d e r → Raising f d g s → (r ≡ s) × (e ≡ g)
-up_one f h k = answers_one told h k
+up_one f h k = answers_one h k
 
 pub back_one : (f : List ℕ) {d e g : List ℕ} {r s : Answer} → Lowering f d e r → Lowering f d g s → (r ≡ s) × (e ≡ g)
-back_one f h k = answers_one told h k
+back_one f h k = answers_one h k
 
 -- ---- there and back
 -- a file f of layout L, whose problem is written in layout M as the file g
@@ -88,7 +52,7 @@ sent L M f small e =
 -- what a call wrote that was done
 wrote : {x : Fault} {w d e : List ℕ} {n : ℕ} → Answers x w d e (Ok n) → (x ≡ Ok tt) × (take n e ≡ w)
 wrote {x} {w} {d} {e} {n} h =
-    let c = answers-clear refl refl h in
+    let c = answers-clear h in
     (c.0, ap (take n) (h.buffer-is ∙ rw c.0) ∙ take_at w (drop (length w) d) n (sym c.1))
 
 -- where nothing is wrong, the file f is written

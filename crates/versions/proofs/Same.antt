@@ -2,24 +2,25 @@
 use Prim.Native.Nat.{ℕ}
 use mathlib.Core.Path.{◌≡◌}
 use mathlib.Core.List.{List}
+use Rattle.std.specs.Prelude.{Result}
+use Rattle.rules.specs.declared.Refusal.{Refusal}
+use Rattle.rules.specs.Paper.{Answer}
 use Rattle.problem.specs.Wrong.{Reads}
+use Rattle.losses.specs.declared.BusTime.{BusTime}
 use Rattle.judge.specs.Promise.{Judging}
 use Rattle.judge.proofs.Promise.{judging-one}
 use Rattle.triggers.specs.Promise.{Listing}
 use Rattle.triggers.proofs.Results.{listing-one}
-use Rattle.bus_log.specs.declared.answer.Held.{Held}
+use Rattle.bus_log.specs.Against.{Held}
 use Rattle.bus_log.specs.Promise.{Holding, DueWritten}
 use Rattle.bus_log.proofs.HeldLog.{holding-one}
 use Rattle.bus_log.proofs.Results.{due-written-one}
 use Rattle.planner.specs.Promise.{Planning, Replanning}
 use Rattle.planner.proofs.Unique.{planning-one, replanning-one}
-use Rattle.std.specs.Prelude.{Result}
-use Rattle.rules.specs.Paper.{Answer}
-use Rattle.rules.specs.declared.Refusal.{Refusal}
 
 -- a promise made for g is one made for f: it goes by what is wrong with the file, which is nothing, and by its words
 module _ {f g p : List ℕ} (a : Reads f p) (b : Reads g p) where
-  judged : {w : List ℕ} {r : (Result BusTime Refusal)} → Judging g w r → Judging f w r
+  judged : {w : List ℕ} {r : Result BusTime Refusal} → Judging g w r → Judging f w r
   judged h = record {
     paper-is = rw (a.clear, a.words) (rw (b.clear, b.words) at h.paper-is);
     exactly = λ q r. h.exactly q record { clear = b.clear; words = rw (b.words, ← a.words) r.words };
@@ -42,7 +43,7 @@ module _ {f g p : List ℕ} (a : Reads f p) (b : Reads g p) where
   replanned h = record { answered = rw (a.clear, a.words) (rw (b.clear, b.words) at h.answered) }
 
   -- the theorem, call by call
-  pub judge-same : {w : List ℕ} {r s : (Result BusTime Refusal)} → Judging f w r → Judging g w s → r ≡ s
+  pub judge-same : {w : List ℕ} {r s : Result BusTime Refusal} → Judging f w r → Judging g w s → r ≡ s
   judge-same h k = judging-one h (judged k)
 
   pub lists-same : (w d : List ℕ) {e x : List ℕ} {r s : Answer} → Listing f w d e r → Listing g w d x s → (r ≡ s) × (e ≡ x)

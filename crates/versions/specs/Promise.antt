@@ -1,8 +1,8 @@
 -- What moving a file up and back promises.
 use Rattle.std.specs.Prelude.{ℕ, ◌≡◌, not, List, eqb, length, Ok}
 use Rattle.rules.specs.declared.Refusal.TheVariants.{Version}
-use Rattle.rules.specs.Paper.{Answers, room_fault, Answer, count_of, paper}
-use Rattle.rules.specs.Refusal.{guard, ◌⊕◌, Fault}
+use Rattle.rules.specs.Paper.{Answer, Answers, room_fault}
+use Rattle.rules.specs.Refusal.{Fault, guard, ◌⊕◌}
 use Rattle.problem.specs.declared.layout.Layout.{Layout}
 use Rattle.problem.specs.declared.layout.Layout.TheVariants.{One, Two}
 use Rattle.problem.specs.Layout.{version}
