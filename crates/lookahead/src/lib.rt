@@ -15,17 +15,15 @@ ghost use Rattle.lookahead.specs.Probe.{Picked, Cautious};
 // No node tries more: one place of the message that is picked first, and each place of the one that is picked behind the look for prices.
 const MOST_TRIES: usize = 1 + words::MOST_ROWS * words::MOST_COLUMNS;
 
-// More than the rows of any message, so that fewer places count before fewer rows; and more than what any message has of both.
+// More than the rows of any message, so that fewer places count before fewer rows.
 const PLACE: usize = 128;
-
-const NO_RANK: usize = 1048576;
 
 // A message of `left` with the fewest places, of these one that is sent most often, if `left` has one.
 fn pick(p: &Plannable, table: &[u32; places::TABLE_WORDS], left: u32) -> Option<usize>
     ensures { Picked p.now left result }
 {
     let mut best = None;
-    let mut least = NO_RANK;
+    let mut least = usize::MAX;
     for j in 0..p.messages() {
         if basics::has_bit(left, j as u32) {
             let step = p.step(j);
@@ -62,7 +60,8 @@ fn turn(
 }
 
 // Whether the messages of `left` may all find room within the table, which it uses up: false only where they cannot. The message with the fewest places is tried first. On
-// the way down no prices are asked for: a node looks for them once, when its first place has failed.
+// the way down no prices are asked for: a node looks for them once, when its first place has failed. Where they find it is noted in place, one message a node: an option
+// of a whole plan would be copied at each.
 fn possible(
     p: &Plannable,
     table: &mut [u32; places::TABLE_WORDS],

@@ -21,11 +21,6 @@ const BEYOND: u64 = 1024;
 // The highest price, and how far one moves at most.
 const MOST_PRICE: u32 = 65535;
 
-const MOST_MOVE: u64 = MOST_PRICE as u64;
-
-// More than cells are ever worth beyond what places cost.
-const FAR: u64 = 1073741824;
-
 // What the cheapest places of some messages cost together, and whether two of them meet.
 #[derive(Drop)]
 struct Wanted {
@@ -87,7 +82,7 @@ fn weight(price: u16, uses: u8) -> u64
     beyond * beyond
 }
 
-// By the cells in the columns x of row i.
+// By the cells in the columns x of row i. It isn't one function with what those are worth: that promises a number for each cell, and this only a bound for all.
 fn weight_in(prices: &[u16; prices::CELLS], uses: &[u8; prices::CELLS], i: usize, x: u32) -> u64
     requires { i < most_rows }
     ensures { result ≤ row_worth }
@@ -122,7 +117,7 @@ fn share(gap: u64, weight: u64) -> u32
     if weight == 0 {
         return 1;
     }
-    ((gap + BEYOND) / weight).clamp(1, MOST_MOVE) as u32
+    ((gap + BEYOND) / weight).clamp(1, u64::from(MOST_PRICE)) as u32
 }
 
 // A price, more by d where there is room.
@@ -218,7 +213,8 @@ pub fn tighten(
     let mut sums = [basics::FILL; prices::SUMS];
     let mut least = [0u32; places::MOST_PLANNED];
     let mut u = prices::joint(p, table, left);
-    let mut nearest = FAR;
+    // no round has come nearer yet
+    let mut nearest = u64::MAX;
     for _ in 0..ROUNDS {
         let mut uses = [0u8; prices::CELLS];
         prices::add_up(p, prices, &mut sums);
@@ -235,7 +231,7 @@ pub fn tighten(
                     return false;
                 }
                 u = prices::joint(p, table, left);
-                nearest = FAR;
+                nearest = u64::MAX;
             }
         }
         if worth < UNPRICED {

@@ -6,7 +6,7 @@ mod plannable;
 ghost use Rattle.std.specs.Prelude.{◌≡◌, ◌*◌, ◌<◌, ◌≤◌, length};
 ghost use Rattle.rules.specs.Problem.{most_rows, most_columns, messages, repeat};
 ghost use Rattle.rules.specs.Parts.{Member};
-ghost use Rattle.places.specs.Places.{most_planned, table_at, table_words, Few, Allowed, Allows, Beside, Copied, FirstRow};
+ghost use Rattle.places.specs.Places.{most_planned, table_at, table_words, Allowed, Allows, Beside, Copied, FirstRow};
 
 pub use plannable::Plannable;
 use rules::{placing, words};
@@ -19,7 +19,7 @@ pub const TABLE_WORDS: usize = words::MOST_ROWS * MOST_PLANNED;
 // The words of a plan: as many as the longest proposal that is planned has.
 pub const PLAN_WORDS: usize = 2 * MOST_PLANNED;
 
-// Where a table has the word of message j and row i.
+// Where a table has the word of message j and row i. It is one list of words, as specs/ has it, and not an array of arrays, whose laws would speak of two.
 pub fn table_at(j: usize, i: usize) -> usize
     requires { (j < most_planned) × (i < most_rows) }
     ensures { (result ≡ table_at j i) × (result < table_words) }
@@ -48,14 +48,13 @@ pub fn allowed_in(
 }
 
 // The columns in which each message may stand with each base row, as a table.
-pub fn allowed(p: &[u32], taken: &[u32; words::MOST_ROWS], table: &mut [u32; TABLE_WORDS])
-    requires few { Few p.now }
+pub fn allowed(p: &Plannable, taken: &[u32; words::MOST_ROWS], table: &mut [u32; TABLE_WORDS])
     ensures { Allows p.now taken.now table.new }
 {
-    for j in 0..words::messages_of(p) {
-        let step = words::repeat_of(p, j);
+    for j in 0..p.messages() {
+        let step = p.step(j);
         for r in 0..step {
-            table[table_at(j, r)] = allowed_in(p, taken, j, step, r);
+            table[table_at(j, r)] = allowed_in(p.words(), taken, j, step, r);
         }
     }
 }

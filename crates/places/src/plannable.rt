@@ -39,6 +39,13 @@ impl<'a> Plannable<'a> {
         Plannable { words, steps }
     }
 
+    // Its words.
+    pub fn words(&self) -> &[u32]
+        ensures { result.now ≡ self.now }
+    {
+        self.words
+    }
+
     // How many messages it has, which are few.
     pub fn messages(&self) -> usize
         ensures is { result ≡ messages self.now }

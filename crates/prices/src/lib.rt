@@ -23,9 +23,6 @@ pub const SUMS: usize = 2 * CELLS;
 // More than any place costs: at most 64 cells at the highest price, 65,535.
 pub const DEAREST: u32 = 4194304;
 
-// More than any sum of prices. Of what is smaller two can be added.
-const NO_SUM: u32 = 2147483648;
-
 // A place and at most what it costs.
 #[derive(Drop)]
 pub struct Offer {
@@ -107,7 +104,7 @@ fn halve(sums: &mut [u32; SUMS], n: usize)
     ensures { Halved n sums.old sums.new }
 {
     for k in 0..n {
-        sums[n + k] = sums[2 * n + k] % NO_SUM + sums[3 * n + k] % NO_SUM;
+        sums[n + k] = sums[2 * n + k].wrapping_add(sums[3 * n + k]);
     }
 }
 
@@ -119,13 +116,15 @@ pub fn add_up(p: &Plannable, prices: &[u16; CELLS], sums: &mut [u32; SUMS])
     for k in 0..n {
         sums[n + k] = u32::from(prices[k]);
     }
+    // n is halved: no range steps so
     while words::MOST_COLUMNS < n {
         n = n / 2;
         halve(sums, n);
     }
 }
 
-// The cheapest place of message j.
+// The cheapest place of message j. A message without a place has DEAREST and the first cell, and not an option: the number is used as a bound all the same, and
+// the look-ahead finds out by itself that there is no place.
 pub fn cheapest(
     table: &[u32; places::TABLE_WORDS],
     sums: &[u32; SUMS],
