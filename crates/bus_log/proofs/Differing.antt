@@ -7,7 +7,7 @@ use native.Mathlib.Numerals.{add-one}
 use native.Mathlib.Omega.{arith}
 use lib.ListN.{length, get_or, take, drop, length-append, take-append-drop, drop_of_length-le, get_or-append}
 use lib.Seq.{drop-cons, take_all, take-append-le, length-take-le, get_or-take, ext_get_or}
-use Rattle.bus_log.specs.declared.answer.Difference.{Difference}
+use Rattle.bus_log.specs.declared.Difference.{Difference}
 use Rattle.bus_log.specs.Against.{pair_at, nothing, Differing}
 use Rattle.bus_log.specs.Parts.{Agreed, Agreeing}
 

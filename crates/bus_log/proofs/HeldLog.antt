@@ -1,51 +1,15 @@
--- Holding a log keeps its promise at every answer, and two answers that the promise allows are equal.
-use Prim.Native.Nat.{ℕ, ◌+◌, ◌*◌, ◌%◌, ◌<◌, ◌≤◌}
-use mathlib.Core.Path.{◌≡◌, refl, sym, ap, ap₂, subst, ◌∙◌}
-use mathlib.Core.Bool.{true, false, ◌||◌, not}
-use mathlib.Core.List.{List, [], ◌++◌, append_cancel_left}
-use native.Mathlib.Omega.{arith}
-use borrow.Author.Tests.{eqb-true, not-false}
-use lib.Dec.{eqb}
-use lib.ListN.{length, get_or, take}
+-- Two answers to a log that the promise allows are equal.
+use Rattle.std.proofs.Common.{ℕ, ◌+◌, ◌*◌, ◌<◌, ◌≤◌, ◌≡◌, refl, sym, ap, ap₂, subst, ◌∙◌, List, ◌++◌, length, get_or, take, Ok, Err, Some, arith}
+use mathlib.Core.List.{append_cancel_left}
 use lib.Seq.{take-take, take-add}
-use Rattle.basics.proofs.Tests.{or-false, within}
 use Rattle.rules.specs.declared.Refusal.{Refusal}
-use Rattle.rules.specs.declared.Refusal.TheVariants.{Log}
-use Rattle.rules.specs.Paper.{refused, Answer, paper}
-use Rattle.rules.proofs.Faults.{bad-not-clear}
-use Rattle.rules.proofs.Told.{paper-one, not_done}
-use Rattle.proposal.specs.Accept.{Admitted, Tested}
-use Rattle.reader.proofs.Decoding.{refused-is}
-use Rattle.bus_log.specs.declared.answer.Difference.{Difference}
-use Rattle.bus_log.specs.declared.answer.Held.{Held}
-use Rattle.bus_log.specs.declared.answer.Held.TheVariants.{Clean, Differs, Refused}
-use Rattle.bus_log.specs.Against.{pair_at, or_nothing, Differing, Against, clean, differs}
-use Rattle.bus_log.specs.Span.{most_span}
-use Rattle.bus_log.specs.Promise.{wrong_span, HeldAnswered, HoldingAccepted, hold_fault, Holding}
-use Rattle.bus_log.proofs.Determined.{due-one}
-use Rattle.std.specs.Prelude.{Err, Ok}
+use Rattle.rules.specs.Paper.{refused, paper}
 use Rattle.rules.specs.Refusal.{Fault}
-
--- ---- the answers, in their order
-held-refused : {fault : Fault} {p w log : List ℕ} {span : ℕ} (q : Refusal) → fault ≡ Err q → HeldAnswered fault p w span log (Refused q)
-held-refused q h = record { paper-is = rw h; due = []; due-is = λ e. bad-not-clear e h; held = λ e. bad-not-clear e h }
-
--- a log and a span that pass the test
-pub log-right : (n span : ℕ) → not (eqb (n % 2) 0) || wrong_span span ≡ false → (n % 2 ≡ 0) × ((1 ≤ span) × (span ≤ most_span))
-log-right n span e =
-    let parts = or-false (not (eqb (n % 2) 0)) (wrong_span span) e in
-    (eqb-true (n % 2) 0 (not-false (eqb (n % 2) 0) parts.0), within span 1 most_span parts.1)
-
-module _ (f w log : List ℕ) (span : ℕ) {b : List ℕ} where
-  pub file-refused : {g : Answer} {q t : Refusal} → Tested f w b g → g ≡ Err q → t ≡ refusal g → Holding f w log span (Refused t)
-  file-refused {t = t} h is t-is = held-refused t (rw (refused-is h is t-is))
-
-  pub log-refused : {n : ℕ} → Admitted f w b n → not (eqb (length log % 2) 0) || wrong_span span ≡ true → Holding f w log span (Refused Log)
-  log-refused a o = held-refused Log (rw (a.clear, o))
-
-  pub log-accepted : {n s : ℕ} {r : Held} → Admitted f w b n → not (eqb (length log % 2) 0) || wrong_span span ≡ false → s ≡ span
-      → HoldingAccepted (take n b) w s log r → Holding f w log span r
-  log-accepted a o es h = rw (a.clear, o, ← a.front, ← es) h
+use Rattle.rules.proofs.Told.{paper-one, not_done}
+use Rattle.bus_log.specs.declared.Difference.{Difference}
+use Rattle.bus_log.specs.Against.{Held, pair_at, or_nothing, Differing, Against, clean, differs}
+use Rattle.bus_log.specs.Promise.{HeldAnswered, hold_fault, Holding}
+use Rattle.bus_log.proofs.Determined.{due-one}
 
 -- ---- two differences
 -- a pair within a front that two lists share
@@ -77,12 +41,11 @@ against-one : {x log : List ℕ} {r s : Held} → Against x log r → Against x 
 against-one (clean e) (clean g) = refl
 against-one (clean e) (differs c k) = absurd (k.unlike (ap (λ (l : List ℕ). pair_at l c.index) e))
 against-one (differs d h) (clean e) = absurd (h.unlike (ap (λ (l : List ℕ). pair_at l d.index) e))
-against-one (differs d h) (differs c k) = ap Differs (differing-one h k)
+against-one (differs d h) (differs c k) = ap (λ (x : Difference). Ok (Some x)) (differing-one h k)
 
-refused-one : (q : Refusal) (r : Held) → paper r ≡ refused q → r ≡ Refused q
-refused-one q Clean e = not_done q e
-refused-one q (Differs d) e = not_done q e
-refused-one q (Refused u) e = ap Refused (let b : Err u ≡ Err q = paper-one (Err u) (Err q) e in cc)
+refused-one : (q : Refusal) (r : Held) → paper r ≡ refused q → r ≡ Err q
+refused-one q (Ok x) e = not_done q e
+refused-one q (Err u) e = ap Err (let b : Err u ≡ Err q = paper-one (Err u) (Err q) e in cc)
 
 held_one : (fault : Fault) {p w log : List ℕ} {span : ℕ} {r s : Held} → HeldAnswered fault p w span log r → HeldAnswered fault p w span log s → r ≡ s
 held_one (Ok tt) {log = log} {s = s} h k =

@@ -1,20 +1,21 @@
 -- A log behind its first matrix cycle: each pair must be the one of the matrix cycle before, a matrix cycle later.
-use Prim.Native.Nat.{ℕ, suc, ◌+◌, ◌*◌, ◌-◌, ◌/◌, ◌%◌, ◌<◌, ◌≤◌, min}
-use mathlib.Core.Path.{◌≡◌, sym, ap, subst, ◌∙◌}
-use mathlib.Core.List.{List, ◌++◌}
-use native.Mathlib.Omega.{arith}
-use lib.ListN.{length, get_or, take, drop, length-append, length-drop, get_or-append}
+use Rattle.std.proofs.Common.{ℕ, suc, ◌+◌, ◌*◌, ◌-◌, ◌/◌, ◌%◌, ◌<◌, ◌≤◌, min, ◌≡◌, refl, sym, ap, subst, ◌∙◌, List, ◌++◌, length, get_or, take, drop, length-append, length-drop, Result, Ok, Err, IsErrAnd, arith}
+use Rattle.std.specs.Result.{result_err}
+use native.Mathlib.Nat.{mul-le-mul}
+use lib.ListN.{get_or-append}
 use lib.Seq.{get_or-take, get_or-drop, length-take-le}
 use Rattle.basics.specs.Runs.{run}
 use Rattle.basics.proofs.Runs.{run-split}
-use Rattle.rules.specs.Problem.{most_rows, rows, matrix, messages}
+use Rattle.rules.specs.Problem.{most_rows, rows, cycle, matrix, messages}
+use Rattle.rules.specs.Paper.{paper, done}
 use Rattle.rules.proofs.Bounds.{rows-least}
 use Rattle.proposal.specs.Accepted.{Accepted}
 use Rattle.cells.specs.Table.{Table}
-use Rattle.bus_log.specs.declared.answer.Difference.{Difference}
+use Rattle.bus_log.specs.declared.Difference.{Difference}
 use Rattle.bus_log.specs.Span.{IsDue, cycle_sends, most_span}
-use Rattle.bus_log.specs.Against.{Differing, nothing}
+use Rattle.bus_log.specs.Against.{Held, Differing, nothing, Against, differs}
 use Rattle.bus_log.specs.Parts.{Agreeing, Begins, with_all, but-for}
+use Rattle.bus_log.specs.Promise.{HeldAnswered}
 use Rattle.bus_log.specs.Rows.{words_of_row, row_most}
 use Rattle.bus_log.proofs.Differing.{Same, Tells, same-on, apart-at, same-clean, differing-at, differing-behind, differing-longer}
 use Rattle.bus_log.proofs.Early.{time-fits}
@@ -22,7 +23,6 @@ use Rattle.bus_log.proofs.Later.{comes-again}
 use Rattle.bus_log.proofs.Rows.{rows-most}
 use Rattle.bus_log.proofs.Size.{due-size}
 use Rattle.bus_log.proofs.Walk.{rows-due}
-use Rattle.std.specs.Prelude.{Err, Ok}
 
 -- how far it can be compared: from the first n words on to `reach`, in whole pairs
 pub record Lengths (log : List ℕ) (n reach : ℕ) : Type 0 where
@@ -30,14 +30,13 @@ pub record Lengths (log : List ℕ) (n reach : ℕ) : Type 0 where
   pub reached : n ≤ reach
   pub in-log : reach ≤ length log
   pub even : (reach - n) % 2 ≡ 0
-  pub before : length (take (reach - n) log) ≡ reach - n
   pub behind : length (take (reach - n) (drop n log)) ≡ reach - n
 
 -- what to answer, where x is due, `full` words, and n + r of the log are right: the pair behind them is not, or the log goes on, or it is clean
 pub record Outcome (x log : List ℕ) (n full later r : ℕ) : Type 0 where
-  pub differs : n + r < full → {d : Difference} → d.index ≡ (n + r) / 2 → d.time ≡ get_or log (n + r - n) 0 + later → d.identifier ≡ get_or log (n + r - n + 1) 0 → Differing x log d
+  pub differs : n + r < full → {d : Difference} → d.index ≡ (n + r) / 2 → d.time ≡ get_or log r 0 + later → d.identifier ≡ get_or log (r + 1) 0 → Differing x log d
   -- the time that is due fits a word
-  pub fits : n + r < full → get_or log (n + r - n) 0 + later < 4294967296
+  pub fits : n + r < full → get_or log r 0 + later < 4294967296
   pub goes_on : full ≤ n + r → full < length log → {d : Difference} → d.index ≡ full / 2 → d.time ≡ nothing → d.identifier ≡ nothing → Differing x log d
   pub clean : full ≤ n + r → length log ≤ full → log ≡ x
 
@@ -81,6 +80,9 @@ module _ {p w t : List ℕ} (a : Accepted p w) (b : Table p w (messages p) t) (s
     pub first-few : {n : ℕ} → Begins one log (Ok n) → n ≤ most_rows * row_most
     first-few b = omega (arith, first-size b, rows-most p t (rows p) a.formed.header.columns-most, a.formed.header.rows-most)
 
+    pub all-few : {n : ℕ} → Begins one log (Ok n) → n * span ≤ most_rows * row_most * most_span
+    all-few b = mul-le-mul {n₂ = most_rows * row_most} {m₂ = most_span} (first-few b) few
+
     first-same : {n : ℕ} → Begins one log (Ok n) → Same all log n
     first-same (with_all n en e) = record {
       inside = omega (arith, ap length all-parts, length-append one (run more (λ i. words_of_row p t (rows p + i))));
@@ -114,7 +116,6 @@ module _ {p w t : List ℕ} (a : Accepted p w) (b : Table p w (messages p) t) (s
               reached = omega arith;
               in-log = omega arith;
               even = omega arith;
-              before = length-take-le (reach - n) log (omega arith);
               behind = length-take-le (reach - n) (drop n log) (rw length-drop (omega arith));
             }
 
@@ -139,25 +140,17 @@ module _ {p w t : List ℕ} (a : Accepted p w) (b : Table p w (messages p) t) (s
             let two = pair-first.0 in
             record { time = tell.time ∙ ap (◌+ later) (sym (s.each (2 * m) (omega arith))); identifier = tell.identifier ∙ sym (s.each (2 * m + 1) (omega arith)) }
 
-        tells : (m : ℕ) → 2 * m + 1 < reach - n → Same all log (n + 2 * m) → Tells all (take (reach - n) log) n later (2 * m)
-        tells m l s =
-            let tell = log-again m (omega arith) s in
-            record {
-              time = tell.time ∙ ap (◌+ later) (sym (get_or-take (reach - n) log (2 * m) 0 (omega arith)));
-              identifier = tell.identifier ∙ sym (get_or-take (reach - n) log (2 * m + 1) 0 l);
-            }
-
         -- r words agree, and the pair behind them does not
-        module _ {r : ℕ} (c : Agreeing (take (reach - n) log) later (take (reach - n) (drop n log)) r) where
+        module _ {r : ℕ} (c : Agreeing log later (take (reach - n) (drop n log)) r) where
           -- r is even too
           whole : (r % 2 ≡ 0) × (r ≤ reach - n)
-          whole = (c.agreed.whole, omega (arith, c.agreed.inside, lengths-by.before))
+          whole = (c.agreed.whole, omega (arith, c.agreed.in-log, lengths-by.behind))
 
           rest-same : Same all log (n + r)
           rest-same =
               let h = whole in
               let s = lengths-by in
-              same-on log n reads fits begun c.agreed (omega arith) (λ m l so_far. tells m (omega arith) so_far)
+              same-on log n reads fits begun c.agreed (omega arith) (λ m l so_far. log-again m (omega arith) so_far)
 
           -- ---- the answers
           -- the pair that is due behind them
@@ -172,28 +165,24 @@ module _ {p w t : List ℕ} (a : Accepted p w) (b : Table p w (messages p) t) (s
           outcome-by : Outcome all log n full later r
           outcome-by = record { differs = rest-differs; fits = rest-fits; goes_on = rest-behind; clean = rest-clean }
             where
-              rest-differs : n + r < full → {d : Difference} → d.index ≡ (n + r) / 2 → d.time ≡ get_or log (n + r - n) 0 + later → d.identifier ≡ get_or log (n + r - n + 1) 0
-                  → Differing all log d
+              rest-differs : n + r < full → {d : Difference} → d.index ≡ (n + r) / 2 → d.time ≡ get_or log r 0 + later → d.identifier ≡ get_or log (r + 1) 0 → Differing all log d
               rest-differs l {d} ei et ed =
                   let h = whole in
                   let s = lengths-by in
                   let two = pair-first.1 in
                   let pairs = all-even in
                   let next = due-next l in
-                  let back : n + r - n ≡ r = omega arith in
-                  let half : 2 * (r / 2) ≡ r = omega arith in
-                  differing-at rest-same (omega arith) (omega arith) even (et ∙ ap (λ (k : ℕ). get_or log k 0 + later) back ∙ sym next.time) (ed ∙ ap (λ (k : ℕ). get_or log (k + 1) 0) back ∙ sym next.identifier)
-                  (λ there. apart-at log n reads fits (omega (arith, lengths-by.behind)) c (omega (arith, lengths-by.before)) (omega (arith, lengths-by.behind)) (rw half at (tells (r / 2) (omega arith) (rw half rest-same))))
+                  differing-at rest-same (omega arith) (omega arith) even (et ∙ sym next.time) (ed ∙ sym next.identifier)
+                  (λ there. apart-at log n reads fits (omega (arith, lengths-by.behind)) c (omega arith) (omega (arith, lengths-by.behind)) next)
 
               -- a time that is due fits a word
-              rest-fits : n + r < full → get_or log (n + r - n) 0 + later < 4294967296
+              rest-fits : n + r < full → get_or log r 0 + later < 4294967296
               rest-fits l =
                   let h = whole in
                   let two = pair-first.1 in
-                  let back : n + r - n ≡ r = omega arith in
                   let half : 2 * ((n + r) / 2) ≡ n + r = omega arith in
                   let small : get_or all (n + r) 0 < 4294967296 = rw half at (time-fits (rows-due a b span) ((n + r) / 2) (omega arith) a.formed few) in
-                  rw back (omega (arith, (due-next l).time))
+                  omega (arith, (due-next l).time)
 
               rest-behind : full ≤ n + r → full < length log → {d : Difference} → d.index ≡ full / 2 → d.time ≡ nothing → d.identifier ≡ nothing → Differing all log d
               rest-behind l ll ei et ed =
@@ -211,15 +200,22 @@ module _ {p w t : List ℕ} (a : Accepted p w) (b : Table p w (messages p) t) (s
                   same-clean (subst (Same all log) e rest-same) (omega arith)
 
     -- ---- the same from how the log begins
-    module _
-        {n full later reach : ℕ} (first : Begins one log (Ok n)) (even : length log % 2 ≡ 0) (cycles : full ≡ n * span)
-        (el : later ≡ matrix p) (er : reach ≡ min (length log) full)
-      where
-        full_is : full ≡ length all
-        full_is = cycles ∙ ap (◌* span) (first-size first) ∙ sym all-size
+    module _ {n reach : ℕ} (first : Begins one log (Ok n)) (even : length log % 2 ≡ 0) (er : reach ≡ min (length log) (n * span)) where
+      full_is : n * span ≡ length all
+      full_is = ap (◌* span) (first-size first) ∙ sym all-size
 
-        pub lengths : Lengths log n reach
-        lengths = lengths-by (first-same first) even (first-size first) full_is el er
+      pub lengths : Lengths log n reach
+      lengths = lengths-by {later = matrix p} (first-same first) even (first-size first) full_is refl er
 
-        pub outcome : {r : ℕ} → Agreeing (take (reach - n) log) later (take (reach - n) (drop n log)) r → Outcome all log n full later r
-        outcome c = outcome-by (first-same first) even (first-size first) full_is el er c
+      pub outcome : {rows-is cycle-is r : ℕ} → rows-is ≡ rows p → cycle-is ≡ cycle p
+          → Agreeing log (rows-is * cycle-is) (take (reach - n) (drop n log)) r → Outcome all log n (n * span) (rows-is * cycle-is) r
+      outcome el ec c = outcome-by (first-same first) even (first-size first) full_is (rw (el, ec)) er c
+
+-- ---- the answer, where the log and what is due are told
+pub answered : {p w x log : List ℕ} {span : ℕ} {r : Held} → paper r ≡ done → IsDue p w span x → Against x log r → HeldAnswered (Ok tt) p w span log r
+answered e d h = record { paper-is = e; due = _; due-is = λ _. d; held = λ _. h }
+
+-- a difference that is handed on
+pub handed-on : {x log : List ℕ} {d : Difference} (r : Result (Unit {0}) Difference) → IsErrAnd r (λ e. e ≡ d) → Differing x log d → Against x log (Ok (result_err r))
+handed-on (Ok u) e h = absurd e
+handed-on (Err d) e h = differs d (rw e h)

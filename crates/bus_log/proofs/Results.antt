@@ -1,25 +1,17 @@
--- Writing what is due keeps its promise at every answer, two results that the promise allows are equal, and how many words they have.
-use Prim.Native.Nat.{ℕ, ◌*◌, ◌≤◌, ◌<◌}
-use mathlib.Core.Path.{◌≡◌, refl, sym, subst, ◌∙◌}
-use mathlib.Core.Bool.{true, false}
-use mathlib.Core.List.{List, [], ◌++◌}
+-- Writing what is due of an accepted proposal keeps its promise, two results that the promise allows are equal, and how many words they have.
+use Rattle.std.proofs.Common.{ℕ, ◌*◌, ◌≤◌, ◌<◌, ◌≡◌, refl, sym, subst, ◌∙◌, false, List, ◌++◌, length, drop, Ok, Err, arith}
 use native.Mathlib.Nat.{mul-le-mul}
-use native.Mathlib.Omega.{arith}
-use borrow.Author.Tests.{lt-ltb, le-ltb}
-use lib.ListN.{length, take, drop}
+use borrow.Author.Tests.{ltb-false}
 use Rattle.basics.specs.Runs.{run, Put}
 use Rattle.basics.proofs.Tests.{within}
-use Rattle.rules.specs.declared.Refusal.{Refusal}
 use Rattle.rules.specs.declared.Refusal.TheVariants.{Room, Log}
-use Rattle.rules.specs.Paper.{Answers, Answer, count_of, paper}
+use Rattle.rules.specs.Paper.{Answers, Answer, room_fault}
 use Rattle.rules.specs.Problem.{rows, messages}
 use Rattle.rules.specs.Refusal.{guard, Fault}
-use Rattle.rules.proofs.Faults.{bad-not-clear, clear_both, clear-guard}
-use Rattle.rules.proofs.Told.{Told, answered, refusing, answers-refused, answers-done, answers_one, answers-clear}
+use Rattle.rules.proofs.Faults.{clear_both, clear-guard}
+use Rattle.rules.proofs.Told.{answers-done, answers_one, answers-clear}
 use Rattle.problem.specs.File.{words_of}
 use Rattle.proposal.specs.Accepted.{check_fault, Accepted}
-use Rattle.proposal.specs.Accept.{Admitted, Tested}
-use Rattle.reader.proofs.Decoding.{refused-is}
 use Rattle.proposal.proofs.Accepting.{clear-accepted}
 use Rattle.cells.specs.Table.{Table}
 use Rattle.bus_log.specs.Span.{IsDue, cycle_sends, size, most_span}
@@ -29,50 +21,29 @@ use Rattle.bus_log.proofs.Counts.{sends-most}
 use Rattle.bus_log.proofs.Determined.{due-one}
 use Rattle.bus_log.proofs.Size.{due-size}
 use Rattle.bus_log.proofs.Walk.{rows-due}
-use Rattle.std.specs.Prelude.{Err, Ok}
 
--- ---- what is due is written, or refused
-due-refused : {fault : Fault} {p w d : List ℕ} {span : ℕ} (q : Refusal) → fault ≡ Err q → DueAnswered fault p w span d d (Err q)
-due-refused q h = record { due = []; due-is = λ e. bad-not-clear e h; answers = answers-refused q refl refl h }
+-- ---- the list of an accepted proposal fits where there is room for so many words as the rule says, and is then written; n is how many sends start in a matrix cycle
+module _
+    {p w t : List ℕ} (a : Accepted p w) (b : Table p w (messages p) t) (span : ℕ) (d : List ℕ) {n : ℕ} (en : n ≡ cycle_sends p)
+    (clear : room_fault (2 * (n * span)) (length d) ≡ Ok tt) {m : ℕ} (em : m ≡ rows p)
+  where
+    pub rows_fit : length (run (span * m) (words_of_row p t)) ≤ length d
+    rows_fit = rw (em, due-size a span (rows-due a b span), ← en) (ltb-false (length d) (2 * (n * span)) (clear-guard _ Room clear))
 
--- for an accepted proposal: n is how many sends start in a matrix cycle
-module _ {p w : List ℕ} (a : Accepted p w) (span : ℕ) (d : List ℕ) {n : ℕ} (en : n ≡ cycle_sends p) where
-  pub room-refused : length d < 2 * (n * span) → DueAccepted p w span d d (Err Room)
-  room-refused l = due-refused Room (rw (lt-ltb (length d) (size p span) (rw (← en) l)))
-
-  module _ {t : List ℕ} (b : Table p w (messages p) t) (room : 2 * (n * span) ≤ length d) where
-    pub rows_fit : {m : ℕ} → m ≡ rows p → length (run (span * m) (words_of_row p t)) ≤ length d
-    rows_fit em = rw (em, due-size a span (rows-due a b span), ← en) room
-
-    pub rows_written : {m : ℕ} {e : List ℕ} {r : ℕ} → m ≡ rows p → Put (run (span * m) (words_of_row p t)) d e r → DueAccepted p w span d e (Ok r)
-    rows_written {m} em h = record {
+    pub rows_written : {e : List ℕ} {r : ℕ} → Put (run (span * m) (words_of_row p t)) d e r → DueAccepted p w span d e (Ok r)
+    rows_written h = record {
       due = run (span * m) (words_of_row p t);
       due-is = λ _. rw em (rows-due a b span);
-      answers = answers-done refl refl (rw (le-ltb (length d) (size p span) (rw (← en) room))) (sym h.count) h.is;
+      answers = answers-done (rw en at clear) (sym h.count) h.is;
     }
 
--- the call: file or proposal are refused, or the span, or else it is as for an accepted proposal
-module _ (f w : List ℕ) (span : ℕ) (d : List ℕ) {b : List ℕ} where
-  pub due-file-refused : {g : Answer} {q t : Refusal} → Tested f w b g → g ≡ Err q → t ≡ refusal g → DueWritten f w span d d (Err t)
-  due-file-refused {t = t} h is t-is = due-refused t (rw (refused-is h is t-is))
-
-  pub due-span-refused : {n : ℕ} → Admitted f w b n → wrong_span span ≡ true → DueWritten f w span d d (Err Log)
-  due-span-refused a o = due-refused Log (rw (a.clear, o))
-
-  pub due-span-accepted : {n s : ℕ} {e : List ℕ} {r : Answer} → Admitted f w b n → wrong_span span ≡ false → s ≡ span → DueAccepted (take n b) w s d e r → DueWritten f w span d e r
-  due-span-accepted a o es h = rw (a.clear, o, ← a.front, ← es) h
-
 -- ---- two results of the list
-told : (r : Answer) → Told Ok Err r (paper r) (count_of r)
-told (Ok n) = answered n
-told (Err q) = refusing q 0
-
 -- where there is no fault, the words are the same; a fault leaves nothing of them to tell
 written_one : (fault : Fault) {p w d e g : List ℕ} {span : ℕ} {r s : Answer} → DueAnswered fault p w span d e r → DueAnswered fault p w span d g s → (r ≡ s) × (e ≡ g)
 written_one (Ok tt) {d = d} {g = g} {s = s} h k =
-    answers_one told h.answers (subst (λ (x : List ℕ). Answers (Ok tt) x d g s) (due-one (k.due-is refl) (h.due-is refl)) k.answers)
+    answers_one h.answers (subst (λ (x : List ℕ). Answers (Ok tt) x d g s) (due-one (k.due-is refl) (h.due-is refl)) k.answers)
 written_one (Err q) h k =
-    answers_one told h.answers record { paper-is = k.answers.paper-is; count-is = k.answers.count-is; buffer-is = k.answers.buffer-is }
+    answers_one h.answers record { paper-is = k.answers.paper-is; count-is = k.answers.count-is; buffer-is = k.answers.buffer-is }
 
 -- the theorem: of the same file, proposal, span and buffer the promise allows one answer, and one buffer behind it
 pub due-written-one : (f w : List ℕ) (span : ℕ) (d : List ℕ) {e g : List ℕ} {r s : Answer} → DueWritten f w span d e r → DueWritten f w span d g s → (r ≡ s) × (e ≡ g)
@@ -90,7 +61,7 @@ pub record Listed (f w : List ℕ) (span : ℕ) (d e : List ℕ) (n : ℕ) : Typ
 
 pub written_listed : (f w : List ℕ) (span : ℕ) (d : List ℕ) {e : List ℕ} {n : ℕ} → DueWritten f w span d e (Ok n) → Listed f w span d e n
 written_listed f w span d h =
-    let wrote = answers-clear refl refl h.answers in
+    let wrote = answers-clear h.answers in
     let parts = clear_both (check_fault f w) _ wrote.0 in
     record {
       admitted = parts.0;

@@ -1,30 +1,29 @@
 -- The words of a cell and of a row, as they are written.
-use Prim.Native.Nat.{ℕ, zero, suc, ◌+◌, ◌*◌, ◌-◌, ◌%◌, ◌<◌, ◌≤◌}
-use mathlib.Core.Path.{◌≡◌, refl, ◌∙◌}
-use mathlib.Core.List.{List, ◌∷◌, ◌++◌}
+use Rattle.std.proofs.Common.{ℕ, zero, suc, ◌+◌, ◌*◌, ◌-◌, ◌%◌, ◌<◌, ◌≤◌, ◌≡◌, refl, ◌∙◌, List, ◌∷◌, ◌++◌, length, get_or, take, drop, length-append, arith}
 use native.Mathlib.Nat.{mul-le-mul}
-use native.Mathlib.Omega.{arith}
-use lib.ListN.{length, drop, length-append}
+use borrow.Rule.Slice.PartMut.{put_mid}
 use Rattle.basics.specs.Runs.{run, Put}
+use Rattle.basics.proofs.Runs.{run-next}
 use Rattle.basics.proofs.Sums.{sum-most}
-use Rattle.basics.proofs.Written.{Begins, begins, length-pieces}
-use Rattle.rules.specs.Problem.{most_columns, rows, cycle, ref_id, columns, start, identifier}
+use Rattle.basics.proofs.Written.{Begins, begins, begins-more, room-more, run_room, length-pieces}
+use Rattle.rules.specs.Problem.{most_columns, rows, cycle, ref_id, columns, start}
+use Rattle.cells.specs.Cells.{cell}
 use Rattle.cells.specs.Table.{number_in}
 use Rattle.bus_log.specs.Rows.{cell_words, cell_of, cells_of, reference_words, words_of_row, most_rows_due, row_most}
 
+-- ---- a piece more of a run, written by way of the rest of the buffer
+module _ (g : ℕ → List ℕ) {n i at : ℕ} {d l : List ℕ} (begun : Begins (run i g) d l at) (below : i < n) (fits : length (run n g) ≤ length d) where
+  next-room : length (run (i + 1) g) ≤ length d
+  next-room = run_room g n (i + 1) (omega arith) fits
+
+  pub piece-room : length (g i) ≤ length (take (length l - at) (drop at l))
+  piece-room = room-more begun (g i) (run-next g i) next-room
+
+  pub piece-written : {ys : List ℕ} {r : ℕ} → Put (g i) (take (length l - at) (drop at l)) ys r → Begins (run (i + 1) g) d (put_mid at (length l - at) l ys) (at + r)
+  piece-written put = begins-more begun (g i) (run-next g i) next-room put
+
 -- ---- a cell
 module _ (p : List ℕ) where
-  pub cell-none : (number time : ℕ) (d : List ℕ) → number ≡ 0 → Put (cell_words p number time) d d 0
-  cell-none number time d e = rw e (record { count = refl; is = refl })
-
-  pub cell_room : (number time : ℕ) (d : List ℕ) → ¬ (number ≡ 0) → length (cell_words p number time) ≤ length d → 2 ≤ length d
-  cell_room zero time d h l = absurd (h refl)
-  cell_room (suc j) time d h l = l
-
-  pub cell-some : (number time : ℕ) {d e : List ℕ} {i : ℕ} → ¬ (number ≡ 0) → i ≡ identifier p (number - 1) → e ≡ time ∷ i ∷ drop 2 d → Put (cell_words p number time) d e 2
-  cell-some zero time h ei e = absurd (h refl)
-  cell-some (suc j) time {d = d} h ei e = let q : suc j - 1 ≡ j = omega arith in record { count = refl; is = rw (e, ei, q) }
-
   -- no words, or a pair
   cell-even : (number time : ℕ) → length (cell_words p number time) % 2 ≡ 0
   cell-even zero time = omega arith
@@ -42,8 +41,8 @@ run-even g each (suc n) = omega (arith, length-append (run n g) (g n), run-even 
 
 -- ---- the cells of row i
 module _ (p t : List ℕ) (i : ℕ) where
-  pub cell-is : (c : ℕ) {begin number s : ℕ} → begin ≡ i * cycle p → number ≡ number_in t (i % rows p) c → s ≡ start p c → cell_words p number (begin + s) ≡ cell_of p t i c
-  cell-is c eb en es = rw (en, eb, es)
+  pub cell-read : (c : ℕ) {b r k number s : ℕ} → b ≡ cycle p → r ≡ rows p → k ≡ cell (i % r) c → number ≡ get_or t k 0 → s ≡ start p c → cell_words p number (i * b + s) ≡ cell_of p t i c
+  cell-read c eb er ek en es = rw (en, ek, er, eb, es)
 
   -- the reference message's words come first
   pub row_first : words_of_row p t i ≡ reference_words p i ++ cells_of p t i

@@ -1,9 +1,12 @@
 -- A log held against the words that are due: it is clean, or there is a first pair that differs.
-use Rattle.std.specs.Prelude.{ℕ, ◌*◌, ◌≡◌, List, [], ◌∷◌, take}
+use Rattle.std.specs.Prelude.{ℕ, ◌*◌, ◌≡◌, List, [], ◌∷◌, take, Option, None, Some, Result, Ok}
 use Rattle.basics.specs.Runs.{piece}
-use Rattle.bus_log.specs.declared.answer.Difference.{Difference}
-use Rattle.bus_log.specs.declared.answer.Held.{Held}
-use Rattle.bus_log.specs.declared.answer.Held.TheVariants.{Clean, Differs}
+use Rattle.rules.specs.declared.Refusal.{Refusal}
+use Rattle.bus_log.specs.declared.Difference.{Difference}
+
+-- what is answered: nothing for a log that is clean, the first difference, or why the log is not held against the plan
+abbrev pub Held : Type 0
+Held = Result (Option Difference) Refusal
 
 -- pair i of a list of words, and none behind its end
 abbrev pub pair_at : List ℕ → ℕ → List ℕ
@@ -25,5 +28,5 @@ pub record Differing (x log : List ℕ) (d : Difference) : Type 0 where
 
 -- the answer where nothing is refused
 pub data Against (x log : List ℕ) : Held → Type 0 where
-  clean : log ≡ x → Against x log Clean
-  differs : (d : Difference) → Differing x log d → Against x log (Differs d)
+  clean : log ≡ x → Against x log (Ok None)
+  differs : (d : Difference) → Differing x log d → Against x log (Ok (Some d))

@@ -1,6 +1,6 @@
 -- What the parts of the calls hand back.
 use Rattle.std.specs.Prelude.{ℕ, ◌+◌, ◌*◌, ◌%◌, ◌<◌, ◌≤◌, ◌≡◌, List, ◌++◌, length, get_or, drop, Err, Ok, Result}
-use Rattle.bus_log.specs.declared.answer.Difference.{Difference}
+use Rattle.bus_log.specs.declared.Difference.{Difference}
 use Rattle.bus_log.specs.Against.{Differing}
 
 -- the pair of the log at a word is the one of x, so much later
@@ -21,6 +21,6 @@ pub record Agreeing (x : List ℕ) (later : ℕ) (log : List ℕ) (r : ℕ) : Ty
   pub stops : r < length x → r < length log → ¬ Follows x later log r
 
 -- the log begins with x, or it differs within x
-pub data Begins (x log : List ℕ) : (Result ℕ Difference) → Type 0 where
+pub data Begins (x log : List ℕ) : Result ℕ Difference → Type 0 where
   with_all : (n : ℕ) → n ≡ length x → log ≡ x ++ drop n log → Begins x log (Ok n)
   but-for : (d : Difference) → 2 * d.index + 1 < length x → Differing x log d → Begins x log (Err d)

@@ -1,14 +1,15 @@
 -- What the two calls promise.
-use Rattle.std.specs.Prelude.{ℕ, ◌%◌, ◌≡◌, Bool, ◌||◌, not, List, eqb, length, Ok}
+use Rattle.std.specs.Prelude.{ℕ, ◌%◌, ◌≡◌, Bool, ◌||◌, not, List, eqb, length, Result, Ok}
+use Rattle.std.specs.Result.{result_err}
 use Rattle.basics.specs.Tests.{outside}
 use Rattle.rules.specs.declared.Refusal.TheVariants.{Log}
-use Rattle.rules.specs.Paper.{paper, Answers, room_fault, Answer, count_of}
+use Rattle.rules.specs.Paper.{Answer, paper, Answers, room_fault}
 use Rattle.rules.specs.Refusal.{guard, ◌⊕◌, Fault}
 use Rattle.problem.specs.File.{words_of}
 use Rattle.proposal.specs.Accepted.{check_fault}
-use Rattle.bus_log.specs.declared.answer.Held.{Held}
+use Rattle.bus_log.specs.declared.Difference.{Difference}
 use Rattle.bus_log.specs.Span.{IsDue, size, most_span}
-use Rattle.bus_log.specs.Against.{Against}
+use Rattle.bus_log.specs.Against.{Held, Against}
 
 abbrev pub wrong_span : ℕ → Bool
 wrong_span span = outside span 1 most_span
@@ -20,9 +21,9 @@ pub record HeldAnswered (fault : Fault) (p w : List ℕ) (span : ℕ) (log : Lis
   pub due-is : fault ≡ Ok tt → IsDue p w span due
   pub held : fault ≡ Ok tt → Against due log r
 
--- within the call, once problem, proposal, log and span are accepted
-abbrev pub HoldingAccepted : List ℕ → List ℕ → ℕ → List ℕ → Held → Type 0
-HoldingAccepted p w span log r = HeldAnswered (Ok tt) p w span log r
+-- within the call, once problem, proposal, log and span are accepted: nothing, or the first difference
+abbrev pub HoldingAccepted : List ℕ → List ℕ → ℕ → List ℕ → Result (Unit {0}) Difference → Type 0
+HoldingAccepted p w span log r = HeldAnswered (Ok tt) p w span log (Ok (result_err r))
 
 -- what is wrong with holding a log of n words against the file f with the proposal w
 abbrev pub hold_fault : List ℕ → List ℕ → ℕ → ℕ → Fault
