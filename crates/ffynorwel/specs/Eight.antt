@@ -5,7 +5,7 @@ use Rattle.rules.specs.declared.Refusal.{Refusal}
 use Rattle.rules.specs.Paper.{done, refused, paper, Answer, count_of}
 use Rattle.losses.specs.declared.BusTime.{BusTime}
 use Rattle.judge.specs.Answer.{figures}
-use Rattle.bus_log.specs.declared.answer.Difference.{Difference}
+use Rattle.bus_log.specs.declared.Difference.{Difference}
 
 -- number, place, second place and five figures
 abbrev pub eight : Paper → List ℕ → List ℕ

@@ -3,7 +3,7 @@
 
 mod plannable;
 
-ghost use Rattle.std.specs.Prelude.{◌≡◌, ◌*◌, ◌<◌, ◌≤◌, length};
+ghost use Rattle.std.specs.Prelude.{◌≡◌, ◌*◌, ◌<◌, ◌≤◌};
 ghost use Rattle.rules.specs.Problem.{most_rows, most_columns, messages, repeat};
 ghost use Rattle.rules.specs.Parts.{Member};
 ghost use Rattle.places.specs.Places.{most_planned, table_at, table_words, Allowed, Allows, Beside, Copied, FirstRow};
@@ -11,7 +11,8 @@ ghost use Rattle.places.specs.Places.{most_planned, table_at, table_words, Allow
 pub use plannable::Plannable;
 use rules::{placing, words};
 
-// The most messages that are planned, and the words of a table: one for each message and row.
+// The most messages that are planned, and the words of a table: one for each message and row. A table and the set `left` of messages that it is asked for stay two
+// parameters: as one struct, each function that writes the table would have to promise besides that the set stays.
 pub const MOST_PLANNED: usize = 16;
 
 pub const TABLE_WORDS: usize = words::MOST_ROWS * MOST_PLANNED;

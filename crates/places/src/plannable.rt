@@ -1,8 +1,8 @@
 // A problem that the planner takes, with what its inner loops ask of it. A clause sees it as the words of the problem.
-ghost use Rattle.std.specs.Prelude.{◌≡◌, ◌<◌, ◌≤◌, length};
+ghost use Rattle.std.specs.Prelude.{◌≡◌, ◌<◌, ◌≤◌};
 ghost use Rattle.rules.specs.Problem.{rows, messages};
 ghost use Rattle.rules.specs.Parts.{Repeat};
-ghost use Rattle.places.specs.Places.{most_planned, Few};
+ghost use Rattle.places.specs.Places.{Few};
 
 use super::MOST_PLANNED;
 use rules::words;

@@ -8,7 +8,7 @@ use native.Mathlib.Omega.{arith}
 use lib.ListN.{length}
 use Rattle.basics.specs.Sums.{sum}
 use Rattle.basics.proofs.Tests.{not-both}
-use Rattle.rules.specs.Paper.{Answers, room_fault, Answer, count_of, paper}
+use Rattle.rules.specs.Paper.{Answers, room_fault, Answer}
 use Rattle.rules.specs.Problem.{messages, proposal_words}
 use Rattle.rules.specs.Refusal.{◌⊕◌, Fault}
 use Rattle.rules.specs.Tests.{proposal_fault}

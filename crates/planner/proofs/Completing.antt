@@ -1,7 +1,6 @@
 -- The least plan that keeps the kept placements, from the least that suits the other messages around them.
 use Prim.Native.Nat.{ℕ, ◌*◌, ◌+◌, ◌<◌, ◌≤◌}
 use mathlib.Core.Path.{◌≡◌, sym, ◌∙◌}
-use mathlib.Core.Bool.{Bool, true, false}
 use mathlib.Core.List.{List}
 use native.Mathlib.Omega.{arith}
 use lib.ListN.{length, get_or, take}
@@ -12,8 +11,8 @@ use Rattle.rest.specs.Part.{Part}
 use Rattle.rest.specs.Joined.{Joined}
 use Rattle.planner.specs.Order.{Agree}
 use Rattle.planner.specs.Least.{PlanKeeping}
-use Rattle.planner.specs.Search.{Suiting, Best, Nowhere, Searched}
-use Rattle.planner.specs.Complete.{Sound, Completed, Completes}
+use Rattle.planner.specs.Search.{Suiting, Best, Nowhere}
+use Rattle.planner.specs.Complete.{Sound, Completed}
 use Rattle.planner.proofs.Order.{agree-none, agree_less, not-after-agree}
 use Rattle.planner.proofs.Gone.{fault-agree}
 use Rattle.planner.proofs.Least.{plan-stands, stands-plan}
@@ -46,7 +45,7 @@ module _ {p k t m q : List ℕ} {n : ℕ} (S : Sound p k t m n) (Q : Part p m n 
       rows_same = λ j l y. sym (front.rows_same j l) ∙ J.kept-rows j l y;
     }
 
-    completed : {z : List ℕ} → Best (Suiting q t) (messages q) 0 z u → Completed p k w
+    pub completed : {z : List ℕ} → Best (Suiting q t) (messages q) 0 z u → Completed p k w
     completed {z} B =
         let stood = stands-whole S Q B.among J in
         let count = Q.count in
@@ -64,9 +63,5 @@ module _ {p k t m q : List ℕ} {n : ℕ} (S : Sound p k t m n) (Q : Part p m n 
           };
         }
 
-    incomplete : {z : List ℕ} → Nowhere (Suiting q t) 0 z → (v : List ℕ) → PlanKeeping p k v → ⊥
-    incomplete {z} N v h = N.none (pick v m n n) (picked-suits v h) (agree-none z (pick v m n n))
-
-    pub completes : (z : List ℕ) (b : Bool) → Searched (Suiting q t) (messages q) 0 z b u → Completes p k b w
-    completes z true B = completed B
-    completes z false N = incomplete N
+  pub incomplete : {z : List ℕ} → Nowhere (Suiting q t) 0 z → (v : List ℕ) → PlanKeeping p k v → ⊥
+  incomplete {z} N v h = N.none (pick v m n n) (picked-suits v h) (agree-none z (pick v m n n))

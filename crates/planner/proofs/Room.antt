@@ -1,13 +1,15 @@
 -- The places that the messages placed leave the others, which proposals fit into them, and that there are none where these find no room.
 use Prim.Native.Nat.{ℕ, ◌+◌, ◌*◌, ◌<◌, ◌≤◌}
-use mathlib.Core.Path.{◌≡◌, refl, subst}
+use mathlib.Core.Path.{◌≡◌, refl, sym, subst, ◌∙◌}
 use mathlib.Core.Bool.{Bool, true, false}
 use mathlib.Core.List.{List}
 use mathlib.Core.Logic.{⊎_elim}
 use native.Mathlib.Nat.{eq-or-lt_of_le}
 use native.Mathlib.Omega.{arith}
-use lib.ListN.{get_or, replicate, get_or-replicate}
-use Rattle.basics.specs.Bits.{Has, Joined}
+use borrow.Author.Tests.{eqb-true, eqb-false}
+use lib.Dec.{eqb}
+use lib.ListN.{length, get_or, replicate, get_or-replicate}
+use Rattle.basics.specs.Bits.{bit, Has, Joined}
 use Rattle.basics.proofs.Bits.{has-none}
 use Rattle.rules.specs.Problem.{most_rows, messages, repeat, Gives, column, row, WellFormed}
 use Rattle.rules.specs.Tests.{Stand}
@@ -16,9 +18,10 @@ use Rattle.places.specs.Places.{table_at, Few, Allows, Clash, Beside}
 use Rattle.lookahead.specs.Probe.{Cautious}
 use Rattle.places.proofs.Meets.{fault-own, low_column, clash-meets, not-met}
 use Rattle.kept.specs.Kept.{put}
-use Rattle.planner.specs.Search.{Leaves, From, Fitting, Suiting, Best, Nowhere, Searched}
-use Rattle.planner.proofs.Gone.{Gone, gone-next, found, whole, best-same, nowhere-same}
+use Rattle.planner.specs.Search.{plan_words, Leaves, Begun, From, Fitting, Full, Suiting, Best, Nowhere, Searched}
+use Rattle.planner.proofs.Gone.{put-stands, Gone, gone-next, found, whole, best-same, nowhere-same}
 use Rattle.planner.proofs.Order.{put_keeps, put-column, put-row, put-agree}
+use Rattle.std.specs.Prelude.{Option, None, Some}
 
 -- ---- the messages from k on
 pub from-none : (k : ℕ) → From k k 0
@@ -84,8 +87,11 @@ all_fit {p} {v} {t} {k} h S = whole (Fitting p t k) k v (messages p) h record {
 }
 
 -- where the messages still unplaced find no room in the table, nothing fits
-pub no_room : {p v t : List ℕ} {k l : ℕ} {b : Bool} → From k (messages p) l → Cautious p t l b → b ≡ false → Nowhere (Fitting p t k) k v
-no_room L A e = record { none = λ w W g. (A.refuses e).none w W.stands (record { has = λ j lj hj. W.inside j (L.late j hj) lj }) }
+pub no_room : {p t : List ℕ} {k l : ℕ} {b : Bool} → From k (messages p) l → Cautious p t l b → b ≡ false → Full p t k
+no_room L A e = record { none = λ w W. (A.refuses e).none w W.stands (record { has = λ j lj hj. W.inside j (L.late j hj) lj }) }
+
+pub nowhere_full : {p v t : List ℕ} {k : ℕ} → Full p t k → Nowhere (Fitting p t k) k v
+nowhere_full F = record { none = λ w W g. F.none w W }
 
 -- ---- what fits into the table of all places that may be taken is what has no fault and no cell that is taken
 module _ {p o t : List ℕ} (A : Allows p o t) where
@@ -101,9 +107,9 @@ module _ {p o t : List ℕ} (A : Allows p o t) where
     free = λ j lj. ((A.each j (row w j) lj (stands W.stands j lj).row_below).only (column w j) (W.inside j (omega arith) lj)).free;
   }
 
-  pub searched-around : (n : ℕ) (v u : List ℕ) (b : Bool) → Searched (Fitting p t 0) n 0 v b u → Searched (Suiting p o) n 0 v b u
-  searched-around n v u true F = best-same suits-fits fits-suits F
-  searched-around n v u false N = nowhere-same suits-fits N
+  pub searched-around : (n : ℕ) (v : List ℕ) (r : Option (List ℕ)) → Searched (Fitting p t 0) n 0 v r → Searched (Suiting p o) n 0 v r
+  searched-around n v (Some u) F = best-same suits-fits fits-suits F
+  searched-around n v None N = nowhere-same suits-fits N
 
 -- and where no cell is taken, what has no fault
 module _ {p : List ℕ} (wf : WellFormed p) where
@@ -122,19 +128,58 @@ module _ {p : List ℕ} (wf : WellFormed p) where
   pub nowhere-all : {v : List ℕ} → Nowhere (Suiting p (replicate most_rows 0)) 0 v → Nowhere (Stand p (messages p)) 0 v
   nowhere-all N = nowhere-same stands-suits N
 
--- ---- the places of message k, one by one: x has the columns that the table has for it with base row r
-module _ (p t : List ℕ) (k : ℕ) (v : List ℕ) (c r : ℕ) {x : ℕ} (lk : k < messages p) (ex : x ≡ get_or t (table_at k r) 0) (G : Gone (Fitting p t k) k v c r) where
-  -- it is none of them
-  pub gone-closed : (Has x c → ⊥) → Gone (Fitting p t k) k v c (r + 1)
-  gone-closed n = gone-next (Fitting p t k) k v c r G λ w W g ec er. n (rw (ex, ← ec, ← er) (W.inside k (omega arith) lk))
+-- ---- message k is tried at column c and base row r: w has it there, and t' has what the table t leaves the others then
+pub record Tried (p t : List ℕ) (k : ℕ) (v : List ℕ) (c r : ℕ) (w t' : List ℕ) : Type 0 where
+  pub few : Few p
+  pub below : k < messages p
+  pub room : Gives v k
+  pub placed : w ≡ put v k c r
+  pub left : ℕ
+  pub others : From (k + 1) (messages p) left
+  pub beside : Beside p left k c r t t'
 
-  -- it is, and then the table t' has what is left the others
-  module _ (F : Few p) {t' w : List ℕ} {l : ℕ} (room : Gives v k) (e : w ≡ put v k c r) (L : From (k + 1) (messages p) l) (B : Beside p l k c r t t') where
-    pub gone-tried : Nowhere (Fitting p t' (k + 1)) (k + 1) w → Gone (Fitting p t k) k v c (r + 1)
-    gone-tried N = gone-next (Fitting p t k) k v c r G λ u W g ec er. N.none u (fitting-then F lk L B ec er W) (rw e (put-agree v k c r room g ec er))
+pub tried : {p t v w t' : List ℕ} {k c r n l : ℕ} → Few p → n ≡ messages p → k < n → plan_words ≤ length v → w ≡ put v k c r → From (k + 1) n l → Beside p l k c r t t'
+    → Tried p t k v c r w t'
+tried {l = l} few count below long placed others beside = record {
+  few = few;
+  below = omega (arith, count);
+  room = omega (arith, count, few.most);
+  placed = placed;
+  left = l;
+  others = from_all (omega (arith, count)) others;
+  beside = beside;
+}
 
-    pub found-there : {u : List ℕ} → Has x c → Best (Fitting p t' (k + 1)) (messages p) (k + 1) w u → Best (Fitting p t k) (messages p) k v u
-    found-there h S = found (Fitting p t k) k v (messages p) c r (Fitting p t' (k + 1)) lk room e S
-        (λ ec er W. fitting-before F lk L B ec er (rw ex at h) W)
-        (λ u W ec er. fitting-then F lk L B ec er W)
+-- what is read in the table, and the test of a digit there
+has-read : (t : List ℕ) (j r c : ℕ) {at : ℕ} {b : Bool} → at ≡ table_at j r → b ≡ eqb (bit (get_or t at 0) c) 1 → b ≡ true → Has (get_or t (table_at j r) 0) c
+has-read t j r c e f g = rw (← e) (eqb-true _ _ (sym f ∙ g))
+
+not-read : (t : List ℕ) (j r c : ℕ) {at : ℕ} {b : Bool} → at ≡ table_at j r → b ≡ eqb (bit (get_or t at 0) c) 1 → b ≡ false → Has (get_or t (table_at j r) 0) c → ⊥
+not-read t j r c e f g = rw (← e) (eqb-false _ _ (sym f ∙ g))
+
+module _ {p t v : List ℕ} {k c r at : ℕ} {b : Bool} (is : at ≡ table_at k r) (test : b ≡ eqb (bit (get_or t at 0) c) 1) where
+  -- it is none of the message's places
+  pub gone-closed : b ≡ false → k < messages p → Gone (Fitting p t k) k v c r → Gone (Fitting p t k) k v c (r + 1)
+  gone-closed none lk G = gone-next (Fitting p t k) k v c r G λ w W g ec er. not-read t k r c is test none (rw (← ec, ← er) (W.inside k (omega arith) lk))
+
+  module _ (some : b ≡ true) {w t' : List ℕ} (T : Tried p t k v c r w t') where
+    -- the search goes on behind it
+    pub begun-next : r < repeat p k → Begun p t k v → Begun p t' (k + 1) w
+    begun-next lr B = record {
+      within = omega (arith, T.below);
+      stands = put-stands p v k c r T.room T.placed T.below lr B.stands B.leaves refl (has-read t k r c is test some);
+      leaves = leaves-more p v k c r T.room T.placed T.others B.leaves T.beside;
+    }
+
+    -- and finds something there
+    pub found-there : {u : List ℕ} → Gone (Fitting p t k) k v c r → Best (Fitting p t' (k + 1)) (messages p) (k + 1) w u → Best (Fitting p t k) (messages p) k v u
+    found-there G S = found (Fitting p t k) k v (messages p) c r (Fitting p t' (k + 1)) T.below T.room T.placed S
+        (λ ec er W. fitting-before T.few T.below T.others T.beside ec er (has-read t k r c is test some) W)
+        (λ u W ec er. fitting-then T.few T.below T.others T.beside ec er W)
         G
+
+-- or finds nothing there
+pub gone-tried : {p t v w t' : List ℕ} {k c r : ℕ} → Tried p t k v c r w t' → Nowhere (Fitting p t' (k + 1)) (k + 1) w → Gone (Fitting p t k) k v c r → Gone (Fitting p t k) k v c (r + 1)
+gone-tried {p} {t} {v} {w} {t'} {k} {c} {r} T N G =
+    gone-next (Fitting p t k) k v c r G λ u W g ec er.
+    N.none u (fitting-then T.few T.below T.others T.beside ec er W) (rw T.placed (put-agree v k c r T.room g ec er))

@@ -6,11 +6,11 @@ use mathlib.Core.Logic.{◌↔◌}
 use native.Mathlib.Omega.{arith}
 use lib.ListN.{length}
 use Rattle.rules.specs.declared.Paper.{Paper}
-use Rattle.rules.specs.Paper.{Answers, Answer, count_of, paper}
+use Rattle.rules.specs.Paper.{Answers, Answer, paper}
 use Rattle.rules.specs.Problem.{messages}
 use Rattle.problem.specs.File.{words_of}
 use Rattle.rules.proofs.Faults.{bad-not-clear}
-use Rattle.rules.proofs.Told.{Told, answered, refusing, answers_one}
+use Rattle.rules.proofs.Told.{answers_one}
 use Rattle.planner.specs.Least.{Plan, LeastOf, Least, PlanKeeping}
 use Rattle.planner.specs.Promise.{Chosen, refused, none, planned, Planning, Replanning}
 use Rattle.planner.proofs.Order.{antisym, agree-eq}
@@ -34,21 +34,16 @@ one-least {n = n} {v} {w} long a b = agree-eq n v w (long v a.plan) (long w b.pl
 pub least-one : {p v w : List ℕ} → Least p v → Least p w → v ≡ w
 least-one {p} = one-least (plan-whole p)
 
--- number, place and count settle an answer
-told : (r : Answer) → Told Ok Err r (paper r) (count_of r)
-told (Ok n) = answered n
-told (Err q) = refusing q 0
-
 chosen-one : {A : List ℕ → Type 0} {n : ℕ} → Whole A n → {x : Fault} {d e f : List ℕ} {r s : Answer} → Chosen A n x d e r → Chosen A n x d f s → (r ≡ s) × (e ≡ f)
-chosen-one long {d = d} {f = f} {s = s} (refused q a h) (refused t b g) = let c : Err t ≡ Err q = sym b ∙ a in answers_one told h (subst (λ (x : Fault). Answers x [] d f s) c g)
+chosen-one long {d = d} {f = f} {s = s} (refused q a h) (refused t b g) = let c : Err t ≡ Err q = sym b ∙ a in answers_one h (subst (λ (x : Fault). Answers x [] d f s) c g)
 chosen-one long (refused q a h) (none b n g) = bad-not-clear b a
 chosen-one long (refused q a h) (planned b w l g) = bad-not-clear b a
 chosen-one long (none a n h) (refused t b g) = bad-not-clear a b
-chosen-one long (none a n h) (none b m g) = answers_one told h g
+chosen-one long (none a n h) (none b m g) = answers_one h g
 chosen-one long (none a n h) (planned b w l g) = absurd (n w l.plan)
 chosen-one long (planned a v k h) (refused t b g) = bad-not-clear a b
 chosen-one long (planned a v k h) (none b m g) = absurd (m v k.plan)
-chosen-one long {d = d} {f = f} {s = s} (planned a v k h) (planned b w l g) = answers_one told h (subst (λ (w : List ℕ). Answers (Ok tt) w d f s) (one-least long l k) g)
+chosen-one long {d = d} {f = f} {s = s} (planned a v k h) (planned b w l g) = answers_one h (subst (λ (w : List ℕ). Answers (Ok tt) w d f s) (one-least long l k) g)
 
 pub planning-one : {f d e g : List ℕ} {r s : Answer} → Planning f d e r → Planning f d g s → (r ≡ s) × (e ≡ g)
 planning-one {f} a b = chosen-one (plan-whole (words_of f)) a.answered b.answered

@@ -1,5 +1,5 @@
 -- Kept placements that have passed the tests, and what completes them.
-use Rattle.std.specs.Prelude.{ℕ, ◌≤◌, ◌≡◌, Bool, true, false, List, length, take, Ok}
+use Rattle.std.specs.Prelude.{ℕ, ◌≤◌, ◌≡◌, List, length, take, Option, None, Some, Ok}
 use Rattle.rules.specs.Problem.{messages, proposal_words, WellFormed}
 use Rattle.row_words.specs.RowWords.{RowWords}
 use Rattle.proposal.specs.Partial.{kept_fault}
@@ -15,11 +15,12 @@ pub record Sound (p k t m : List ℕ) (n : ℕ) : Type 0 where
   pub free : Free k (messages p) m n
   pub few : n ≤ most_planned
 
--- the first words of w are the least plan that keeps them, or there is none
+-- the first words of w are the least plan that keeps them
 pub record Completed (p k w : List ℕ) : Type 0 where
   pub long : proposal_words p ≤ length w
   pub least : LeastKeeping p k (take (proposal_words p) w)
 
-abbrev pub Completes : List ℕ → List ℕ → Bool → List ℕ → Type 0
-Completes p k true w = Completed p k w
-Completes p k false w = (v : List ℕ) → PlanKeeping p k v → ⊥
+-- there is one, or none
+abbrev pub Completes : List ℕ → List ℕ → Option (List ℕ) → Type 0
+Completes p k (Some w) = Completed p k w
+Completes p k None = (v : List ℕ) → PlanKeeping p k v → ⊥

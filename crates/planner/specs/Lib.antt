@@ -2,5 +2,4 @@ pub mod Order
 pub mod Least
 pub mod Search
 pub mod Complete
-pub mod Answer
 pub mod Promise

@@ -2,7 +2,7 @@
 use Rattle.std.specs.Prelude.{ℕ, ◌≡◌, List, [], ltb, length, Err, Ok}
 use Rattle.rules.specs.declared.Refusal.{Refusal}
 use Rattle.rules.specs.declared.Refusal.TheVariants.{NoPlan, TooMany}
-use Rattle.rules.specs.Paper.{Answers, room_fault, Answer, count_of, paper}
+use Rattle.rules.specs.Paper.{Answers, room_fault, Answer}
 use Rattle.rules.specs.Problem.{messages, proposal_words}
 use Rattle.rules.specs.Refusal.{guard, ◌⊕◌, Fault}
 use Rattle.problem.specs.File.{words_of}

@@ -2,10 +2,10 @@
 // Nothing is asked of the prices.
 #![tactic(auto)]
 
-ghost use Rattle.std.specs.Prelude.{◌≡◌, ◌+◌, ◌*◌, ◌<◌, ◌≤◌, length};
+ghost use Rattle.std.specs.Prelude.{◌≡◌, ◌*◌, ◌<◌, ◌≤◌};
 ghost use Rattle.rules.specs.Problem.{most_rows, most_columns, rows, messages};
 ghost use Rattle.places.specs.Places.{most_planned};
-ghost use Rattle.prices.specs.Prices.{cell_at, most_cells, most_price, dearest, worth_in, worth, row_worth, most_worth, JointIn, Joint};
+ghost use Rattle.prices.specs.Prices.{cell_at, most_cells, dearest, worth_in, worth, row_worth, most_worth, JointIn, Joint};
 ghost use Rattle.prices.specs.Prices.{sum_at, most_sums, Halved, Sums, Cheap, Owed, PaidIn, Paid};
 
 use places::Plannable;
@@ -47,7 +47,7 @@ pub fn sum_at(s: usize, r: usize, c: usize) -> usize
     words::MOST_COLUMNS * (s + r) + c
 }
 
-// The columns of row i in which a message of `left` may be sent, and the same for each row.
+// The columns of row i in which a message of `left` may be sent.
 fn joint_in(p: &Plannable, table: &[u32; places::TABLE_WORDS], left: u32, i: usize) -> u32
     requires i_lt_most_rows { i < most_rows }
     ensures { JointIn p.now table.now left i (messages p.now) result }
@@ -61,6 +61,7 @@ fn joint_in(p: &Plannable, table: &[u32; places::TABLE_WORDS], left: u32, i: usi
     x
 }
 
+// The same for each row.
 pub fn joint(
     p: &Plannable,
     table: &[u32; places::TABLE_WORDS],

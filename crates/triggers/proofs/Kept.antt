@@ -157,7 +157,7 @@ record Front (p w e : List ℕ) : Type 0 where
 
 front : (f w d : List ℕ) {e : List ℕ} {r : ℕ} → Listing f w d e (Ok r) → Front (words_of f) w e
 front f w d h =
-    let clear = (answers-clear refl refl h.answers).0 in
+    let clear = (answers-clear h.answers).0 in
     record { lists = h.lists; rest = drop (length h.lists) d; lists-are = h.lists-are clear; is = sym (h.answers.buffer-is ∙ rw clear) }
 
 fronts-kept : {p w q v e c : List ℕ} {n : ℕ} → SameFor p w q v n → n < nodes → Front p w e → Front q v c → (count_in e n ≡ count_in c n) × (list_in e n ≡ list_in c n)

@@ -150,8 +150,3 @@ pub fn parse_with(text: &[u8], words: &mut [u32], dash: Option<u32>) -> Result<u
     }
     Ok(count)
 }
-
-// Whether two texts are the same. To go once no crate asks it: `s == t` and patterns say it.
-pub fn is_same(s: &[u8], t: &[u8]) -> bool {
-    s == t
-}

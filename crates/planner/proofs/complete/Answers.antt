@@ -1,19 +1,18 @@
 -- The other messages are a well-formed problem of their own; the least that suits it is joined with what is kept.
-use native.Mathlib.Omega.{arith}
+use Rattle.std.proofs.Common.{arith}
 use Rattle.proposal.proofs.KeptMet.{kept-faultless}
 use Rattle.planner.proofs.Parting.{rest-formed}
-use Rattle.planner.proofs.Completing.{completes}
+use Rattle.planner.proofs.Completing.{completed, incomplete}
 use Rattle.planner.proofs.complete.Goals as goal
 
-pub plan_around-got-requires : goal.plan_around-got-requires
-plan_around-got-requires c =
-    let own = c.part_of-n.ensures.1 in
-    record { formed = rest-formed c.requires own; most = omega (arith, own.count, c.requires.few) }
+pub plan_around-requires : goal.plan_around-requires
+plan_around-requires c = record { formed = rest-formed c.requires c.part_of-part.ensures; most = omega (arith, c.part_of-part.ensures.count, c.requires.few) }
 
-pub joined-proposal-requires-clause-messages_le_most_messages : goal.joined-proposal-requires-clause-messages_le_most_messages
-joined-proposal-requires-clause-messages_le_most_messages c = omega (arith, c.messages_of.ensures, ((kept-faultless _ _).0 c.requires.faultless).words)
+pub returns-in_err-plan : goal.returns-in_err-plan
+returns-in_err-plan c = rw c.from_residual.ensures (incomplete c.requires c.part_of-part.ensures c.in_err-plan.ensures)
+
+pub joined-requires-clause-messages_le_most_messages : goal.joined-requires-clause-messages_le_most_messages
+joined-requires-clause-messages_le_most_messages c = omega (arith, c.messages_of.ensures, ((kept-faultless _ _).0 c.requires.faultless).words)
 
 pub returns : goal.returns
-returns c =
-    let own = rw c.messages_of.ensures.0 at c.joined-proposal.ensures.joined in
-    completes c.requires c.part_of-n.ensures.1 c.joined-proposal.ensures.result_len own _ c.plan_around-got.result.found c.plan_around-got.ensures
+returns c = completed c.requires c.part_of-part.ensures c.joined.ensures.result_len (rw c.messages_of.ensures.0 at c.joined.ensures.joined) c.in_ok-plan.ensures

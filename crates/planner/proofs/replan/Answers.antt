@@ -2,11 +2,8 @@
 use Rattle.planner.proofs.Promise.{not-read-again, is-read-again}
 use Rattle.planner.proofs.replan.Goals as goal
 
-pub returns-in_default : goal.returns-in_default
-returns-in_default c = not-read-again _ _ c.decode-got.ensures c.in_default.is c.refusal_of.ensures
-
-pub slice_bounds-words-end : goal.slice_bounds-words-end
-slice_bounds-words-end c = (c.decode-got.ensures.opens _ c.in-Ok.is).within
+pub returns-in_err-n : goal.returns-in_err-n
+returns-in_err-n c = not-read-again _ _ _ _ c.in_err-n.ensures c.from_residual.ensures.1
 
 pub returns : goal.returns
-returns c = is-read-again _ _ (c.decode-got.ensures.opens _ c.in-Ok.is) c.replan_words.ensures
+returns c = is-read-again c.in_ok-n.ensures c.replan_words.ensures

@@ -1,17 +1,13 @@
 -- The refusals in the order of document 02, and then what completes the kept placements: a proposal's words are its first.
-use Rattle.std.proofs.Common.{ℕ, ◌≡◌, ◌≤◌, ◌∙◌, sym, List, length}
-use native.Mathlib.Omega.{arith}
-use borrow.Author.Tests.{not-true, not-false}
+use Rattle.std.proofs.Common.{ℕ, ◌≡◌, ◌≤◌, sym, List, length, arith, Ok}
 use lib.Seq.{length-take-le}
-use Rattle.rules.specs.Problem.{messages, proposal_words}
+use Rattle.rules.specs.Problem.{proposal_words}
 use Rattle.row_words.proofs.Taking.{words-none}
 use Rattle.proposal.specs.Partial.{kept_fault}
 use Rattle.proposal.proofs.KeptMet.{kept-faultless}
-use Rattle.rest.specs.Free.{free_of}
 use Rattle.planner.specs.Complete.{Completed}
-use Rattle.planner.proofs.Promise.{too_many, too_short, not_found, is_found, first-refused, first-clear}
+use Rattle.planner.proofs.Promise.{too_many, few_enough, first-refused, last-refused, first-clear, not_found, is_found}
 use Rattle.planner.proofs.replan_words.Goals as goal
-use Rattle.std.specs.Prelude.{Ok}
 
 -- placements without a fault are as many words as a proposal has
 words : (p k : List ℕ) → kept_fault p k ≡ Ok tt → length k ≡ proposal_words p
@@ -21,54 +17,46 @@ words p k clear = ((kept-faultless p k).0 clear).words
 long : (p k : List ℕ) {w : List ℕ} → kept_fault p k ≡ Ok tt → Completed p k w → length k ≤ length w
 long p k clear done = omega (arith, words p k clear, done.long)
 
-pub kept_fault-fault-requires : goal.kept_fault-fault-requires
-kept_fault-fault-requires c = (c.requires, words-none _ _ c.requires)
+pub kept_fault-requires : goal.kept_fault-requires
+kept_fault-requires c = (c.requires, words-none _ _ c.requires)
 
-pub returns-in-Err : goal.returns-in-Err
-returns-in-Err c = first-refused _ (sym c.kept_fault-fault.ensures.is ∙ c.in-Err.is)
+pub returns-in_err-kept_fault : goal.returns-in_err-kept_fault
+returns-in_err-kept_fault c = first-refused _ _ (sym c.in_err-kept_fault.ensures.is) c.from_residual.ensures.1
 
-pub free_of-left-requires : goal.free_of-left-requires
-free_of-left-requires c = (omega arith, omega (arith, c.messages_of.ensures, words _ _ (sym c.kept_fault-fault.ensures.is ∙ c.in_default.is)))
+pub free_of-requires : goal.free_of-requires
+free_of-requires c = (omega arith, omega (arith, c.messages_of.ensures, words _ _ (sym c.in_ok-kept_fault.ensures.is)))
 
 -- ---- there is nothing wrong with the placements; the messages without one may be too many, and the buffer too short
-pub returns-then-left-gt-MOST_PLANNED : goal.returns-then-left-gt-MOST_PLANNED
-returns-then-left-gt-MOST_PLANNED c =
-    let clear = sym c.kept_fault-fault.ensures.is ∙ c.in_default.is in
-    let free : c.free_of-left.result.count ≡ free_of c.args.kept.now (messages c.args.p.now) = rw c.messages_of.ensures.0 at c.free_of-left.ensures.count_value.0 in
-    first-clear _ clear (too_many _ _ _ (omega (arith, free, c.if-left-gt-MOST_PLANNED.true)))
+pub returns-in_err-group : goal.returns-in_err-group
+returns-in_err-group c =
+    first-clear (sym c.in_ok-kept_fault.ensures.is) (first-refused _ _ (too_many _ (rw c.messages_of.ensures.0 at c.in_err-group.ensures.count)) c.from_residual-in_err-group.ensures.1)
 
-pub returns-then-proposal-kept : goal.returns-then-proposal-kept
-returns-then-proposal-kept c =
-    let clear = sym c.kept_fault-fault.ensures.is ∙ c.in_default.is in
-    let free : c.free_of-left.result.count ≡ free_of c.args.kept.now (messages c.args.p.now) = rw c.messages_of.ensures.0 at c.free_of-left.ensures.count_value.0 in
-    first-clear _ clear (too_short _ _ _ (omega (arith, free)) (omega (arith, words _ _ clear)))
+pub returns-in_err-refuse_if : goal.returns-in_err-refuse_if
+returns-in_err-refuse_if c =
+    let clear = sym c.in_ok-kept_fault.ensures.is in
+    first-clear clear
+    (first-clear (few_enough (omega (arith, rw c.messages_of.ensures.0 at c.in_ok-group.ensures.count, c.numbers.ensures.few)))
+    (last-refused _ (sym (rw (words _ _ clear) at c.in_err-refuse_if.ensures)) c.from_residual-in_err-refuse_if.ensures.1))
 
 -- ---- there what is left is few, and the buffer long enough
-pub returns-then-not-got : goal.returns-then-not-got
-returns-then-not-got c =
-    let clear = sym c.kept_fault-fault.ensures.is ∙ c.in_default.is in
-    let free : c.free_of-left.result.count ≡ free_of c.args.kept.now (messages c.args.p.now) = rw c.messages_of.ensures.0 at c.free_of-left.ensures.count_value.0 in
-    let none = not-true c.complete-got.result.found c.if-not-got.true in
-    first-clear _ clear (not_found _ _ _ (omega (arith, free)) (omega (arith, words _ _ clear)) (rw none at c.complete-got.ensures))
+pub returns-in_default : goal.returns-in_default
+returns-in_default c =
+    let clear = sym c.in_ok-kept_fault.ensures.is in
+    first-clear clear
+    (first-clear (few_enough (omega (arith, rw c.messages_of.ensures.0 at c.in_ok-group.ensures.count, c.numbers.ensures.few)))
+    (not_found (sym (rw (words _ _ clear) at c.in_ok-refuse_if.ensures)) (rw c.in_default.is at c.complete.ensures)))
 
 -- what was found has a proposal's words
 pub slice_bounds-whole-end : goal.slice_bounds-whole-end
-slice_bounds-whole-end c =
-    let clear = sym c.kept_fault-fault.ensures.is ∙ c.in_default.is in
-    let found = not-false c.complete-got.result.found c.if-not-got.false in
-    long _ _ clear (rw found at c.complete-got.ensures)
+slice_bounds-whole-end c = long _ _ (sym c.in_ok-kept_fault.ensures.is) c.in-Some.ensures
 
 pub slice_bounds-copy_words-end : goal.slice_bounds-copy_words-end
-slice_bounds-copy_words-end c =
-    let clear = sym c.kept_fault-fault.ensures.is ∙ c.in_default.is in
-    let found = not-false c.complete-got.result.found c.if-not-got.false in
-    sym (length-take-le _ c.complete-got.result.proposal (long _ _ clear (rw found at c.complete-got.ensures)))
+slice_bounds-copy_words-end c = sym (length-take-le _ c.in-Some.whole (long _ _ (sym c.in_ok-kept_fault.ensures.is) c.in-Some.ensures))
 
 pub returns : goal.returns
 returns c =
-    let clear = sym c.kept_fault-fault.ensures.is ∙ c.in_default.is in
-    let free : c.free_of-left.result.count ≡ free_of c.args.kept.now (messages c.args.p.now) = rw c.messages_of.ensures.0 at c.free_of-left.ensures.count_value.0 in
-    let found = not-false c.complete-got.result.found c.if-not-got.false in
-    let best : Completed c.args.p.now c.args.kept.now c.complete-got.result.proposal = rw found at c.complete-got.ensures in
-    first-clear _ clear
-    (is_found _ _ _ (omega (arith, free)) (omega (arith, words _ _ clear)) c.complete-got.result.proposal (rw (words _ _ clear) best.least) (long _ _ clear best) c.copy_words.ensures)
+    let clear = sym c.in_ok-kept_fault.ensures.is in
+    let best : Completed c.args.p.now c.args.kept.now c.in-Some.whole = c.in-Some.ensures in
+    first-clear clear
+    (first-clear (few_enough (omega (arith, rw c.messages_of.ensures.0 at c.in_ok-group.ensures.count, c.numbers.ensures.few)))
+    (is_found c.in-Some.whole (sym (rw (words _ _ clear) at c.in_ok-refuse_if.ensures)) (rw (words _ _ clear) best.least) (long _ _ clear best) c.copy_words.ensures))

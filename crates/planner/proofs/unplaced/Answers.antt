@@ -1,13 +1,13 @@
 -- A message passed is set, and nothing else changes; the loop ends with the last.
-use native.Mathlib.Omega.{arith}
+use Rattle.std.proofs.Common.{arith}
 use Rattle.planner.proofs.Room.{from-none, from_more, from_all}
 use Rattle.planner.proofs.unplaced.Goals as goal
 
 pub loop-j-init : goal.loop-j-init
-loop-j-init c = (omega arith, from-none _)
+loop-j-init c = from-none _
 
 pub loop-j-preserved : goal.loop-j-preserved
-loop-j-preserved c = let inv = c.loop-j.invariant in (omega arith, from_more inv.0 inv.1 c.with_bit-left.ensures)
+loop-j-preserved c = from_more (omega arith) c.loop-j.invariant c.with_bit-left.ensures
 
 pub returns : goal.returns
-returns c = from_all (omega arith) c.loop-j.invariant.1
+returns c = from_all (omega arith) c.loop-j.invariant

@@ -1,10 +1,6 @@
 -- The messages passed are set, and no others, since the loop begins with the first.
-use Rattle.std.proofs.Common.{◌-◌, ◌≤◌}
 use Rattle.planner.specs.Search.{From}
 use Rattle.planner.proofs.unplaced.Given as goal
 
 abbrev pub invariant-loop-j : goal.invariant-loop-j
-invariant-loop-j l = (l.at ≤ l.j) × From l.at l.j l.left
-
-abbrev pub decreases-loop-j : goal.decreases-loop-j
-decreases-loop-j l = l.count - l.j
+invariant-loop-j l = From l.at l.j l.left
