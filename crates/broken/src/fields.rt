@@ -77,6 +77,7 @@ pub fn below(name: &[u8], n: u32, period: u32) {
     paper::say(b", the period");
 }
 
+// A deadline that must be in the period.
 pub fn deadline(n: u32, period: u32) {
     range(b"deadline", n, 1, period);
     paper::say(b", the period");

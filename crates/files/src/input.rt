@@ -207,32 +207,22 @@ fn say_word(word: &[u8]) {
 }
 
 // What is wrong with a word that is no number.
-fn say_hint(hint: Hint, to: Use) {
+fn sentence(hint: Hint) -> &'static [u8] {
     match hint {
-        Hint::File => paper::say(
-            b": a problem file, where a word list is due; ttplan words makes one of it",
-        ),
-        Hint::Utf16 => paper::say(b": the text is UTF-16; save it as UTF-8 or as plain text"),
-        Hint::NoBreakSpace => paper::say(b": a no-break space; write a plain space"),
-        Hint::Comma => paper::say(
-            b": a comma; only white space parts numbers, and they have no comma in them",
-        ),
-        Hint::Point => paper::say(
+        Hint::File => b": a problem file, where a word list is due; ttplan words makes one of it",
+        Hint::Utf16 => b": the text is UTF-16; save it as UTF-8 or as plain text",
+        Hint::NoBreakSpace => b": a no-break space; write a plain space",
+        Hint::Comma => b": a comma; only white space parts numbers, and they have no comma in them",
+        Hint::Point =>
             b": a decimal point; numbers are whole, and times are network time units (bit times)",
-        ),
-        Hint::Unit => paper::say(
+        Hint::Unit =>
             b": a unit; times are whole network time units (bit times), written without one",
-        ),
-        Hint::Large => paper::say(b": larger than 4,294,967,295, the largest number"),
-        Hint::Dash => paper::say(b": a - is for none, in a kept list (replan) alone"),
-        Hint::Sign => paper::say(b": no number is below 0"),
-        Hint::Prefix => paper::say(b": hexadecimal digits have 0x in front"),
-        Hint::Other => paper::say(b": not a whole number, decimal or with 0x in front hexadecimal"),
+        Hint::Large => b": larger than 4,294,967,295, the largest number",
+        Hint::Dash => b": a - is for none, in a kept list (replan) alone",
+        Hint::Sign => b": no number is below 0",
+        Hint::Prefix => b": hexadecimal digits have 0x in front",
+        Hint::Other => b": not a whole number, decimal or with 0x in front hexadecimal",
     }
-    if let Use::Kept = to {
-        paper::say(b"; a - by itself is none");
-    }
-    paper::say(b"\n");
 }
 
 // What is wrong with the word at a place of a text, which is no number.
@@ -245,7 +235,11 @@ fn say_wrong(text: &[u8], at: usize, to: Use)
         Hint::File | Hint::Utf16 | Hint::NoBreakSpace => {}
         _ => say_word(word),
     }
-    say_hint(hint, to);
+    paper::say(sentence(hint));
+    if let Use::Kept = to {
+        paper::say(b"; a - by itself is none");
+    }
+    paper::say(b"\n");
 }
 
 // Says where the word behind a text stands. So many lines are before the text.

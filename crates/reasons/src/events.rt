@@ -142,7 +142,7 @@ impl<'a> Events<'a> {
         if fields::MOST_DATA < data || period == 0 {
             return 0;
         }
-        (frame_bits(data as usize) * WHOLE + (period - 1)) / period
+        (frame_bits(data as usize) * WHOLE).div_ceil(period)
     }
 
     // How many event j and those of higher priority ask for.

@@ -85,7 +85,7 @@ impl<'a> Problem<'a> {
         );
     }
 
-    // How many messages have no kept placement.
+    // How many messages have no kept placement. A list of another length is refused for that before.
     fn free_count(&self) -> usize {
         if self.call.words.len() != words::proposal_words(self.p) {
             return 0;
