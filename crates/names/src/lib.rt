@@ -9,56 +9,33 @@ use sheet::Kind;
 // How many nodes there are.
 const NODES: u32 = 16;
 
-// How many characters a byte of UTF-8 begins.
-fn begun(b: u8) -> usize
-    ensures { result ≤ 1 }
-{
-    if (b < 128) | (192 <= b) { 1 } else { 0 }
-}
-
-// How many characters a text of UTF-8 has.
+// How many characters a text of UTF-8 has: as many as bytes that begin one.
 fn characters(text: &[u8]) -> usize
     ensures { result ≤ length text.now }
 {
-    let mut count: usize = 0;
-    let mut i: usize = 0;
-    while i < text.len() {
-        count += begun(text[i]);
-        i += 1;
-    }
-    count
+    text.iter().filter(|b| !matches!(**b, 128..192)).count()
 }
 
 // How many characters a name has; 0 if there is none.
 pub fn length(text: &[u8], kind: Kind, i: usize) -> usize {
-    let name = sheet::name_of(text, kind, i);
-    let from = name.from;
-    let to = name.to;
-    characters(&text[from..to])
+    match sheet::name_of(text, kind, i) {
+        Some(name) => characters(&text[name.from..name.to]),
+        None => 0,
+    }
 }
 
 // How many characters the longest of so many names has.
 pub fn width(text: &[u8], kind: Kind, count: usize) -> usize {
-    let mut most: usize = 0;
-    let mut i: usize = 0;
-    while i < count {
-        let own = length(text, kind, i);
-        if most < own {
-            most = own;
-        }
-        i += 1;
-    }
-    most
+    (0..count).map(|i| length(text, kind, i)).max().unwrap_or(0)
 }
 
 // ---- standard output
 
 // Writes a name.
 pub fn put(text: &[u8], kind: Kind, i: usize) {
-    let name = sheet::name_of(text, kind, i);
-    let from = name.from;
-    let to = name.to;
-    paper::text(&text[from..to]);
+    if let Some(name) = sheet::name_of(text, kind, i) {
+        paper::text(&text[name.from..name.to]);
+    }
 }
 
 // Writes a name, or where there is none a word and the number.
@@ -73,8 +50,7 @@ pub fn called(text: &[u8], kind: Kind, i: usize, word: &[u8]) {
 // Writes the nodes of a mask so, with something between them.
 pub fn nodes(text: &[u8], mask: u32, word: &[u8], between: &[u8]) {
     let mut is_any = false;
-    let mut n: u32 = 0;
-    while n < NODES {
+    for n in 0..NODES {
         if has_bit(mask, n) {
             if is_any {
                 paper::text(between);
@@ -82,24 +58,21 @@ pub fn nodes(text: &[u8], mask: u32, word: &[u8], between: &[u8]) {
             called(text, Kind::Node, n as usize, word);
             is_any = true;
         }
-        n += 1;
     }
 }
 
 // Writes the spaces that are left of so many characters beside a name.
 fn pad(text: &[u8], kind: Kind, i: usize, columns: usize) {
-    let own = length(text, kind, i);
-    if own < columns {
-        paper::spaces(columns - own);
-    }
+    paper::spaces(columns.saturating_sub(length(text, kind, i)));
 }
 
-// Writes a name with spaces behind it or before it, so that it fills so many characters.
+// Writes a name with spaces behind it, so that it fills so many characters.
 pub fn left(text: &[u8], kind: Kind, i: usize, columns: usize) {
     put(text, kind, i);
     pad(text, kind, i, columns);
 }
 
+// The same with the spaces before it.
 pub fn right(text: &[u8], kind: Kind, i: usize, columns: usize) {
     pad(text, kind, i, columns);
     put(text, kind, i);
@@ -124,12 +97,11 @@ pub fn bracketed(text: &[u8], kind: Kind, i: usize) {
 
 // Writes text, and a name behind it.
 pub fn say(s: &[u8], text: &[u8], kind: Kind, i: usize) {
-    let name = sheet::name_of(text, kind, i);
-    let from = name.from;
-    let to = name.to;
-    if from < to {
+    if let Some(name) = sheet::name_of(text, kind, i)
+        && name.from < name.to
+    {
         paper::say(s);
-        paper::say(&text[from..to]);
+        paper::say(&text[name.from..name.to]);
     }
 }
 

@@ -1,177 +1,139 @@
 // The fields of a line: which there are, and their values.
-ghost use Rattle.std.specs.Prelude.{◌<◌, ◌≤◌, length};
-ghost use Rattle.wordlist.specs.Text.{Next};
-ghost use Rattle.sheet.specs.Pieces.{Inside};
+ghost use Rattle.std.specs.Prelude.{IfSome};
+ghost use Rattle.sheet.specs.Pieces.{PieceIn};
 
-use super::{Kind, Piece};
-use wordlist::{NO_NUMBER, is_same, next_word, word_end};
+use super::Kind;
+use wordlist::{Piece, word_from};
 
 // The fields. Those of the matrix, of a column and of a message stand as a problem has their words.
-pub const VERSION: usize = 0;
+#[derive(Clone, Copy, PartialEq, Eq)]
+pub enum Field {
+    Version,
+    Rows,
+    Cycle,
+    ReferenceWindow,
+    ReferenceIdentifier,
+    Triggers,
+    Number,
+    Name,
+    Start,
+    Width,
+    Identifier,
+    Sender,
+    Bytes,
+    Receivers,
+    Period,
+    Offset,
+    Deadline,
+}
 
-pub const ROWS: usize = 1;
+static OF_MATRIX: [Field; 6] = [
+    Field::Version,
+    Field::Rows,
+    Field::Cycle,
+    Field::ReferenceWindow,
+    Field::ReferenceIdentifier,
+    Field::Triggers,
+];
 
-pub const CYCLE: usize = 2;
+static OF_NODE: [Field; 2] = [Field::Number, Field::Name];
 
-pub const REFERENCE_WINDOW: usize = 3;
+static OF_COLUMN: [Field; 3] = [Field::Name, Field::Start, Field::Width];
 
-pub const REFERENCE_IDENTIFIER: usize = 4;
+static OF_MESSAGE: [Field; 8] = [
+    Field::Name,
+    Field::Identifier,
+    Field::Sender,
+    Field::Bytes,
+    Field::Receivers,
+    Field::Period,
+    Field::Offset,
+    Field::Deadline,
+];
 
-pub const TRIGGERS: usize = 5;
-
-pub const NUMBER: usize = 6;
-
-pub const NAME: usize = 7;
-
-pub const START: usize = 8;
-
-pub const WIDTH: usize = 9;
-
-pub const IDENTIFIER: usize = 10;
-
-pub const SENDER: usize = 11;
-
-pub const BYTES: usize = 12;
-
-pub const RECEIVERS: usize = 13;
-
-pub const PERIOD: usize = 14;
-
-pub const OFFSET: usize = 15;
-
-pub const DEADLINE: usize = 16;
-
-// What stands for a field that there is not.
-pub const NO_FIELD: usize = 17;
-
-// The fields of each kind, a bit for each.
-pub fn fields_of(kind: Kind) -> u32 {
+// The fields of each kind.
+pub fn fields_of(kind: Kind) -> &'static [Field] {
     match kind {
-        Kind::Matrix => 63,
-        Kind::Node => 192,
-        Kind::Column => 896,
-        Kind::Message => 130176,
+        Kind::Matrix => &OF_MATRIX,
+        Kind::Node => &OF_NODE,
+        Kind::Column => &OF_COLUMN,
+        Kind::Message => &OF_MESSAGE,
     }
 }
 
-// The field of a message that has this name.
-fn message_field(name: &[u8]) -> usize
-    ensures { result ≤ 17 }
-{
-    if is_same(name, b"identifier") {
-        IDENTIFIER
-    } else if is_same(name, b"sender") {
-        SENDER
-    } else if is_same(name, b"bytes") {
-        BYTES
-    } else if is_same(name, b"receivers") {
-        RECEIVERS
-    } else if is_same(name, b"period") {
-        PERIOD
-    } else if is_same(name, b"offset") {
-        OFFSET
-    } else if is_same(name, b"deadline") {
-        DEADLINE
-    } else {
-        NO_FIELD
-    }
-}
-
-// The field of the matrix that has this name.
-fn matrix_field(name: &[u8]) -> usize
-    ensures { result ≤ 17 }
-{
-    if is_same(name, b"version") {
-        VERSION
-    } else if is_same(name, b"rows") {
-        ROWS
-    } else if is_same(name, b"cycle") {
-        CYCLE
-    } else if is_same(name, b"reference-window") {
-        REFERENCE_WINDOW
-    } else if is_same(name, b"reference-identifier") {
-        REFERENCE_IDENTIFIER
-    } else if is_same(name, b"triggers") {
-        TRIGGERS
-    } else {
-        message_field(name)
+// The fields of a kind that are words of a problem: those behind its version or its name. No node is one.
+pub(super) fn words_of(kind: Kind) -> &'static [Field] {
+    match kind {
+        Kind::Matrix => &OF_MATRIX[1..],
+        Kind::Node => &[],
+        Kind::Column => &OF_COLUMN[1..],
+        Kind::Message => &OF_MESSAGE[1..],
     }
 }
 
 // The field that has this name.
-pub fn field_named(name: &[u8]) -> usize
-    ensures { result ≤ 17 }
-{
-    if is_same(name, b"name") {
-        NAME
-    } else if is_same(name, b"number") {
-        NUMBER
-    } else if is_same(name, b"start") {
-        START
-    } else if is_same(name, b"width") {
-        WIDTH
-    } else {
-        matrix_field(name)
+pub fn field_named(name: &[u8]) -> Option<Field> {
+    match name {
+        b"version" => Some(Field::Version),
+        b"rows" => Some(Field::Rows),
+        b"cycle" => Some(Field::Cycle),
+        b"reference-window" => Some(Field::ReferenceWindow),
+        b"reference-identifier" => Some(Field::ReferenceIdentifier),
+        b"triggers" => Some(Field::Triggers),
+        b"number" => Some(Field::Number),
+        b"name" => Some(Field::Name),
+        b"start" => Some(Field::Start),
+        b"width" => Some(Field::Width),
+        b"identifier" => Some(Field::Identifier),
+        b"sender" => Some(Field::Sender),
+        b"bytes" => Some(Field::Bytes),
+        b"receivers" => Some(Field::Receivers),
+        b"period" => Some(Field::Period),
+        b"offset" => Some(Field::Offset),
+        b"deadline" => Some(Field::Deadline),
+        _ => None,
     }
-}
-
-// Where the first byte of a kind stands in a word, or its end.
-pub fn end_before(word: &[u8], b: u8) -> usize
-    ensures { result ≤ length word.now }
-{
-    let mut i: usize = 0;
-    while i < word.len() {
-        if word[i] == b {
-            return i;
-        }
-        i += 1;
-    }
-    i
 }
 
 // ---- values
 
-// The value of a field of a line: what stands behind its name and =. Nothing if the line does not have it.
-pub fn value(line: &[u8], field: usize) -> Piece
-    ensures { Inside line.now result.from result.to }
+// The value of a field of a line: what stands behind its name and =, if the line has it.
+pub fn value(line: &[u8], field: Field) -> Option<Piece>
+    ensures { IfSome result (PieceIn line.now) }
 {
-    let mut at = next_word(line, 0);
-    while at < line.len() {
-        let end = word_end(line, at);
-        let sign = at + end_before(&line[at..end], b'=');
-        if sign < end {
-            if field_named(&line[at..sign]) == field {
-                return Piece {
-                    from: sign + 1,
-                    to: end,
-                };
+    let mut at = 0;
+    while let Some(word) = word_from(line, at) {
+        let (from, to) = (word.from, word.to);
+        if let Some(n) = line[from..to].iter().position(|b| *b == b'=') {
+            let sign = from + n;
+            if field_named(&line[from..sign]) == Some(field) {
+                return Some(Piece { from: sign + 1, to });
             }
         }
-        at = next_word(line, end);
+        at = to;
     }
-    Piece { from: at, to: at }
+    None
 }
 
 // Whether the value of a field is this text.
-pub fn is_value(line: &[u8], field: usize, text: &[u8]) -> bool {
-    let at = value(line, field);
-    let from = at.from;
-    let to = at.to;
-    is_same(&line[from..to], text)
-}
-
-// The number that a text writes, or NO_NUMBER; an empty text writes none.
-pub fn number_in(text: &[u8]) -> u64 {
-    if text.len() == 0 {
-        return NO_NUMBER;
+pub fn is_value(line: &[u8], field: Field, text: &[u8]) -> bool {
+    match value(line, field) {
+        Some(at) => &line[at.from..at.to] == text,
+        None => false,
     }
-    wordlist::number(text)
 }
 
-// The number that is the value of a field, or NO_NUMBER.
-pub fn number(line: &[u8], field: usize) -> u64 {
-    let at = value(line, field);
-    let from = at.from;
-    let to = at.to;
-    number_in(&line[from..to])
+// The number that a text writes; an empty text writes none.
+pub fn number_in(text: &[u8]) -> Option<u32> {
+    if text.is_empty() {
+        None
+    } else {
+        wordlist::number(text)
+    }
+}
+
+// The number that is the value of a field.
+pub fn number(line: &[u8], field: Field) -> Option<u32> {
+    let at = value(line, field)?;
+    number_in(&line[at.from..at.to])
 }

@@ -5,15 +5,15 @@ pub mod fields;
 pub mod reading;
 pub mod slips;
 
-ghost use Rattle.std.specs.Prelude.{◌≤◌, length};
-ghost use Rattle.sheet.specs.Pieces.{Inside};
+ghost use Rattle.std.specs.Prelude.{◌≤◌, IfSome, length};
+ghost use Rattle.sheet.specs.Pieces.{PieceIn};
 
-use fields::{IDENTIFIER, NAME, NUMBER};
+use fields::Field;
 use wordlist::lines::line_end;
-use wordlist::{front, is_same, next_word, word_end};
+use wordlist::{Piece, front, word_from};
 
 // What a line of a sheet is about.
-#[derive(Clone, Copy)]
+#[derive(Clone, Copy, PartialEq, Eq)]
 pub enum Kind {
     Matrix,
     Node,
@@ -21,159 +21,141 @@ pub enum Kind {
     Message,
 }
 
-// A piece of a text: where it begins, and where it ends.
-#[derive(Clone, Copy)]
-pub struct Piece {
-    pub from: usize,
-    pub to: usize,
-}
-
 // Whether a byte is a letter; one beyond ASCII is part of one.
 pub fn is_letter(b: u8) -> bool {
-    ((b'a' <= b) & (b <= b'z')) | ((b'A' <= b) & (b <= b'Z')) | (128 <= b)
+    b.is_ascii_alphabetic() || 128 <= b
 }
 
 // Whether a text is a sheet: its first word begins with a letter, where a word list has a digit.
 pub fn is_sheet(text: &[u8]) -> bool {
-    let at = next_word(text, front(text));
-    if text.len() <= at {
-        return false;
+    match word_from(text, front(text)) {
+        Some(word) => is_letter(text[word.from]),
+        None => false,
     }
-    is_letter(text[at])
 }
 
 // ---- lines
 
-// Whether a word is the one that records of a kind begin with.
-pub fn is_word_of(word: &[u8], kind: Kind) -> bool {
-    match kind {
-        Kind::Matrix => is_same(word, b"matrix"),
-        Kind::Node => is_same(word, b"node"),
-        Kind::Column => is_same(word, b"column"),
-        Kind::Message => is_same(word, b"message"),
+// Whether a line ends with a byte.
+fn ends_line(b: &u8) -> bool {
+    *b == b'\n'
+}
+
+// The kind of the records that begin with a word.
+fn kind_of(word: &[u8]) -> Option<Kind> {
+    match word {
+        b"matrix" => Some(Kind::Matrix),
+        b"node" => Some(Kind::Node),
+        b"column" => Some(Kind::Column),
+        b"message" => Some(Kind::Message),
+        _ => None,
     }
 }
 
 // Whether a line is a record of a kind.
 fn is_record(line: &[u8], kind: Kind) -> bool {
-    let at = next_word(line, 0);
-    if line.len() <= at {
-        return false;
+    match word_from(line, 0) {
+        Some(word) => kind_of(&line[word.from..word.to]) == Some(kind),
+        None => false,
     }
-    is_word_of(&line[at..word_end(line, at)], kind)
 }
 
-// Record i of a kind, from 0: its line. Nothing behind the text if there are fewer.
-pub fn record(text: &[u8], kind: Kind, i: usize) -> Piece
-    ensures { Inside text.now result.from result.to }
+// The line of the first record of a kind for which a test holds, behind so many others.
+fn record_where<F: Fn(&[u8]) -> bool>(
+    text: &[u8],
+    kind: Kind,
+    others: usize,
+    test: F,
+) -> Option<Piece>
+    requires { F.IsAlwaysCallable test }
+    ensures { IfSome result (PieceIn text.now) }
 {
-    let mut count: usize = 0;
-    let mut at = front(text);
-    while at < text.len() {
-        let end = line_end(text, at);
-        if is_record(&text[at..end], kind) {
-            if count == i {
-                return Piece { from: at, to: end };
+    let mut left = others;
+    let mut from = front(text);
+    // No `for` over the lines: in a generic function Rattle does not admit its own module of that iterator.
+    while from < text.len() {
+        let to = line_end(text, from);
+        let line = &text[from..to];
+        if is_record(line, kind) && test(line) {
+            if left == 0 {
+                return Some(Piece { from, to });
             }
-            count += 1;
+            left -= 1;
         }
-        at = end;
+        from = to;
     }
-    Piece { from: at, to: at }
+    None
+}
+
+// The line of record i of a kind, from 0.
+pub fn record(text: &[u8], kind: Kind, i: usize) -> Option<Piece>
+    ensures { IfSome result (PieceIn text.now) }
+{
+    record_where(text, kind, i, |_| true)
 }
 
 // How many records of a kind a text has.
 pub fn count_of(text: &[u8], kind: Kind) -> usize
     ensures { result ≤ length text.now }
 {
-    let mut count: usize = 0;
-    let mut at = front(text);
-    while at < text.len() {
-        let end = line_end(text, at);
-        if is_record(&text[at..end], kind) {
-            count += 1;
-        }
-        at = end;
-    }
-    count
+    text[front(text)..]
+        .split_inclusive(ends_line)
+        .filter(|line| is_record(line, kind))
+        .count()
 }
 
 // ---- names
 
-// The record of a kind that has this name: its line, or nothing behind the text.
-pub fn record_named(text: &[u8], kind: Kind, name: &[u8]) -> Piece
-    ensures { Inside text.now result.from result.to }
+// The line of the record of a kind that has this name.
+pub fn record_named(text: &[u8], kind: Kind, name: &[u8]) -> Option<Piece>
+    ensures { IfSome result (PieceIn text.now) }
 {
-    let mut at = front(text);
-    while at < text.len() {
-        let end = line_end(text, at);
-        if is_record(&text[at..end], kind) {
-            if fields::is_value(&text[at..end], NAME, name) {
-                return Piece { from: at, to: end };
-            }
-        }
-        at = end;
-    }
-    Piece { from: at, to: at }
+    record_where(
+        text,
+        kind,
+        0,
+        |line| fields::is_value(line, Field::Name, name),
+    )
 }
 
-// The record of the node of this number: its line, or nothing behind the text.
-pub fn node(text: &[u8], n: u64) -> Piece
-    ensures { Inside text.now result.from result.to }
+// The line of the record of the node of this number.
+pub fn node(text: &[u8], n: u32) -> Option<Piece>
+    ensures { IfSome result (PieceIn text.now) }
 {
-    let mut at = front(text);
-    while at < text.len() {
-        let end = line_end(text, at);
-        if is_record(&text[at..end], Kind::Node) {
-            if fields::number(&text[at..end], NUMBER) == n {
-                return Piece { from: at, to: end };
-            }
-        }
-        at = end;
-    }
-    Piece { from: at, to: at }
+    record_where(text, Kind::Node, 0, |line| {
+        fields::number(line, Field::Number) == Some(n)
+    })
 }
 
-// Which message has this identifier, from 0; a number that no message has if none does.
-pub fn message_of(text: &[u8], identifier: u64) -> usize {
-    let mut count: usize = 0;
-    let mut at = front(text);
-    while at < text.len() {
-        let end = line_end(text, at);
-        if is_record(&text[at..end], Kind::Message) {
-            if fields::number(&text[at..end], IDENTIFIER) == identifier {
-                return count;
-            }
-            count += 1;
-        }
-        at = end;
-    }
-    text.len()
+// Which message has this identifier, from 0.
+pub fn message_of(text: &[u8], identifier: u32) -> Option<usize> {
+    text[front(text)..]
+        .split_inclusive(ends_line)
+        .filter(|line| is_record(line, Kind::Message))
+        .position(|line| fields::number(line, Field::Identifier) == Some(identifier))
 }
 
 // The line of a node by its number, of a column or a message by its place among its kind.
-pub fn line_of(text: &[u8], kind: Kind, i: usize) -> Piece
-    ensures { Inside text.now result.from result.to }
+pub fn line_of(text: &[u8], kind: Kind, i: usize) -> Option<Piece>
+    ensures { IfSome result (PieceIn text.now) }
 {
     match kind {
-        Kind::Node => node(text, i as u64),
+        Kind::Node => node(text, u32::try_from(i).ok()?),
         _ => record(text, kind, i),
     }
 }
 
-// The name of a node, a column or a message of a sheet; nothing if there is none, or if the text is no sheet.
-pub fn name_of(text: &[u8], kind: Kind, i: usize) -> Piece
-    ensures { Inside text.now result.from result.to }
+// The name of a node, a column or a message of a sheet; none if the text is no sheet.
+pub fn name_of(text: &[u8], kind: Kind, i: usize) -> Option<Piece>
+    ensures { IfSome result (PieceIn text.now) }
 {
     if !is_sheet(text) {
-        return Piece { from: 0, to: 0 };
+        return None;
     }
-    let line = line_of(text, kind, i);
-    let from = line.from;
-    let to = line.to;
-    let name = fields::value(&text[from..to], NAME);
-    Piece {
-        from: from + name.from,
-        to: from + name.to,
-    }
+    let line = line_of(text, kind, i)?;
+    let name = fields::value(&text[line.from..line.to], Field::Name)?;
+    Some(Piece {
+        from: line.from + name.from,
+        to: line.from + name.to,
+    })
 }

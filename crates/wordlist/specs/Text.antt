@@ -1,5 +1,7 @@
 -- What a text of digits says, and what the functions that read a word list hand back.
-use Rattle.std.specs.Prelude.{ℕ, zero, suc, ◌+◌, ◌*◌, ◌-◌, ◌<◌, ◌≤◌, ◌≡◌, cond, ◌⊎◌, List, ltb, length, take, drop, get_or}
+use Rattle.std.specs.Prelude.{ℕ, zero, suc, ◌+◌, ◌*◌, ◌-◌, ◌<◌, ◌≤◌, ◌≡◌, cond, ◌⊎◌, Option, IfSome, Result, MatchResult, List, ltb, length, take, drop, get_or}
+use Rattle.wordlist.specs.declared.Piece.{Piece}
+use Rattle.wordlist.specs.declared.Stop.{Stop}
 
 -- ---- numbers
 -- the value of a byte as a digit: 0 to 9, A to F, a to f; 16 for any other
@@ -22,10 +24,9 @@ pub record Writes (b : ℕ) (s : List ℕ) (n r : ℕ) : Type 0 where
   pub digits : (k : ℕ) → k < n → digit (get_or s k 0) < b
   pub is : r ≡ value b s n
 
--- if r is a word, the digits s of base b write it
-pub record InBase (b : ℕ) (s : List ℕ) (r : ℕ) : Type 0 where
-  pub most : r ≤ 4294967296
-  pub written : r < 4294967296 → Writes b s (length s) r
+-- if r is a number, the digits s of base b write it
+abbrev pub InBase : ℕ → List ℕ → Option ℕ → Type 0
+InBase b s r = IfSome r (Writes b s (length s))
 
 -- 0x stands before the rest of s, which is not empty
 pub record Prefixed (s : List ℕ) : Type 0 where
@@ -34,12 +35,12 @@ pub record Prefixed (s : List ℕ) : Type 0 where
   pub more : 2 < length s
 
 -- the rest behind 0x writes r in hexadecimal
-pub record Hexadecimal (s : List ℕ) (r : ℕ) : Type 0 where
+pub record Hexadecimal (s : List ℕ) (r : Option ℕ) : Type 0 where
   pub front : Prefixed s
   pub rest : InBase 16 (drop 2 s) r
 
--- the word s writes r, if r is a word: in hexadecimal behind 0x, or in decimal
-abbrev pub Numeral : List ℕ → ℕ → Type 0
+-- the word s writes r, if r is a number: in hexadecimal behind 0x, or in decimal
+abbrev pub Numeral : List ℕ → Option ℕ → Type 0
 Numeral s r = Hexadecimal s r ⊎ InBase 10 s r
 
 -- ---- places in a text
@@ -51,10 +52,11 @@ pub record Ended (s : List ℕ) (from r : ℕ) : Type 0 where
   pub least : from < r
   pub most : r ≤ length s
 
--- r is a place of s, so that the text before it can be lent (the equation follows from the bound)
-pub record Within (s : List ℕ) (r : ℕ) : Type 0 where
-  pub most : r ≤ length s
-  pub passed : r ≡ length (take r s)
+-- the piece is a word of the text s that begins at a place or behind it, and has a byte at least
+pub record WordFrom (s : List ℕ) (at : ℕ) (p : Piece) : Type 0 where
+  pub behind : at ≤ p.from
+  pub least : p.from < p.to
+  pub most : p.to ≤ length s
 
 -- n words of the buffer e were taken from the text s, up to the place `at` (each equation follows from the bound before it)
 pub record Taken (s e : List ℕ) (n at : ℕ) : Type 0 where
@@ -62,3 +64,7 @@ pub record Taken (s e : List ℕ) (n at : ℕ) : Type 0 where
   pub front : n ≡ length (take n e)
   pub stopped : at ≤ length s
   pub passed : at ≡ length (take at s)
+
+-- all words of the text s were taken into the buffer e, or those before the word at which the reading stopped
+abbrev pub Parses : List ℕ → List ℕ → Result ℕ Stop → Type 0
+Parses s e r = MatchResult r (λ n. Taken s e n (length s)) (λ stop. Taken s e stop.count stop.at × (stop.at < length s))

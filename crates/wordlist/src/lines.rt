@@ -1,8 +1,8 @@
 // Lines of a word list: where a word stands, which line has a wrong count of words, and which problem a plan was made for.
-ghost use Rattle.std.specs.Prelude.{◌+◌, ◌<◌, ◌≤◌, length};
-ghost use Rattle.wordlist.specs.Text.{Ended, Within};
+ghost use Rattle.std.specs.Prelude.{◌+◌, ◌<◌, ◌≤◌, IfSome, length};
+ghost use Rattle.wordlist.specs.Text.{Ended, WordFrom};
 
-use super::{NO_NUMBER, front, is_same, next_word, number_in, word_end};
+use super::{Piece, front, number_in, word_end, word_from};
 
 // ---- where a place is
 
@@ -10,47 +10,34 @@ use super::{NO_NUMBER, front, is_same, next_word, number_in, word_end};
 pub fn line_of(text: &[u8]) -> usize
     ensures { (1 ≤ result) × (result ≤ length text.now + 1) }
 {
-    let mut line: usize = 1;
-    let mut i: usize = 0;
-    while i < text.len() {
-        if text[i] == b'\n' {
-            line += 1;
-        }
-        i += 1;
-    }
-    line
+    1 + text.iter().filter(|b| **b == b'\n').count()
 }
 
 // The column of that line that a text ends before, from 1.
 pub fn column_of(text: &[u8]) -> usize {
-    let mut column: usize = 1;
-    let mut i = front(text);
-    while i < text.len() {
-        column += 1;
-        if text[i] == b'\n' {
-            column = 1;
-        }
-        i += 1;
+    match text.iter().rposition(|b| *b == b'\n') {
+        Some(end) => text.len() - end,
+        None => text.len() - front(text) + 1,
     }
-    column
 }
 
-// Where word k of a text begins, from 0, or the text's end if it has fewer.
-fn word_at(text: &[u8], k: usize) -> usize
-    ensures { Within text.now result }
+// Where word k of a text stands, from 0, if it has so many.
+fn word(text: &[u8], k: usize) -> Option<Piece>
+    ensures { IfSome result (WordFrom text.now 0) }
 {
-    let mut at = next_word(text, front(text));
-    let mut i: usize = 0;
-    while i < k && at < text.len() {
-        at = next_word(text, word_end(text, at));
-        i += 1;
+    let mut at = front(text);
+    for _ in 0..k {
+        at = word_from(text, at)?.to;
     }
-    at
+    word_from(text, at)
 }
 
-// The line that has word k of a text.
+// The line that has word k of a text, or its last line if it has fewer.
 pub fn line_at(text: &[u8], k: usize) -> usize {
-    line_of(&text[..word_at(text, k)])
+    match word(text, k) {
+        Some(word) => line_of(&text[..word.from]),
+        None => line_of(text),
+    }
 }
 
 // Where the line ends that has a place: behind its last byte.
@@ -58,14 +45,10 @@ pub fn line_end(text: &[u8], from: usize) -> usize
     requires { from < length text.now }
     ensures { Ended text.now from result }
 {
-    let mut i = from;
-    while i < text.len() {
-        if text[i] == b'\n' {
-            return i + 1;
-        }
-        i += 1;
+    match text[from..].iter().position(|b| *b == b'\n') {
+        Some(n) => from + n + 1,
+        None => text.len(),
     }
-    i
 }
 
 // ---- records, one a line
@@ -80,77 +63,68 @@ pub struct Shape {
     pub other: usize,
 }
 
-// A line, how many words it has, and how many it should have; line 0 is none.
-#[derive(Drop)]
+// A line, how many words it has, and how many it should have.
+#[derive(Clone, Copy)]
 pub struct Line {
     pub line: usize,
     pub count: usize,
     pub due: usize,
 }
 
-// No line.
-fn no_line() -> Line {
-    Line {
-        line: 0,
-        count: 0,
-        due: 0,
-    }
-}
-
 // How many words a text has.
 fn count_of(text: &[u8]) -> usize {
-    let mut count: usize = 0;
-    let mut at = next_word(text, 0);
-    while at < text.len() {
-        at = next_word(text, word_end(text, at));
+    let mut count = 0;
+    let mut at = 0;
+    while let Some(word) = word_from(text, at) {
         count += 1;
+        at = word.to;
     }
     count
 }
 
 // How many words a line has from word k of its text on.
 pub fn words_from(text: &[u8], k: usize) -> usize {
-    let at = word_at(text, k);
-    if text.len() <= at {
-        return 0;
+    match word(text, k) {
+        Some(word) => count_of(&text[word.from..line_end(text, word.from)]),
+        None => 0,
     }
-    count_of(&text[at..line_end(text, at)])
 }
 
 // How many words record r should have.
 fn due(shape: Shape, r: usize) -> usize {
     if r == 0 {
-        return shape.first;
+        shape.first
+    } else if r <= shape.few {
+        shape.short
+    } else {
+        shape.other
     }
-    if r <= shape.few {
-        return shape.short;
-    }
-    shape.other
 }
 
 // The first line that has another count of words than its record, where there is one record a line; else none.
-pub fn wrong_line(text: &[u8], shape: Shape) -> Line {
-    let mut wrong = no_line();
-    let mut records: usize = 0;
-    let mut line: usize = 0;
-    let mut at = front(text);
-    while at < text.len() {
-        let end = line_end(text, at);
-        let count = count_of(&text[at..end]);
-        line += 1;
+pub fn wrong_line(text: &[u8], shape: Shape) -> Option<Line> {
+    let mut wrong = None;
+    let mut records = 0;
+    let lines = text[front(text)..].split_inclusive(|b| *b == b'\n');
+    for (i, line) in lines.enumerate() {
+        let count = count_of(line);
         if 0 < count {
             let due = due(shape, records);
-            if (wrong.line == 0) & (count != due) {
-                wrong = Line { line, count, due };
+            if wrong.is_none() && count != due {
+                wrong = Some(Line {
+                    line: i + 1,
+                    count,
+                    due,
+                });
             }
             records += 1;
         }
-        at = end;
     }
     if records == shape.records {
-        return wrong;
+        wrong
+    } else {
+        None
     }
-    no_line()
 }
 
 // ---- the problem of a plan
@@ -158,34 +132,23 @@ pub fn wrong_line(text: &[u8], shape: Shape) -> Line {
 // How many hexadecimal digits the mark of a problem has.
 const MARK_DIGITS: usize = 8;
 
-// What stands before it.
-const BEFORE: usize = 10;
-
-// The mark on a line that begins with `# problem `, or NO_NUMBER.
-fn mark_on(line: &[u8]) -> u64 {
-    if line.len() < BEFORE + MARK_DIGITS {
-        return NO_NUMBER;
+// The mark on a line that begins with `# problem `, if it does.
+fn mark_on(line: &[u8]) -> Option<u32> {
+    let behind = line.strip_prefix(b"# problem ")?;
+    if behind.is_empty() {
+        return None;
     }
-    if !is_same(&line[..BEFORE], b"# problem ") {
-        return NO_NUMBER;
+    let (mark, _) = behind.split_at(word_end(behind, 0));
+    if mark.len() == MARK_DIGITS {
+        number_in(16, mark)
+    } else {
+        None
     }
-    let end = word_end(line, BEFORE);
-    if end != BEFORE + MARK_DIGITS {
-        return NO_NUMBER;
-    }
-    number_in(16, &line[BEFORE..end])
 }
 
-// The mark of the problem that a plan says it was made for, or NO_NUMBER if it does not say so.
-pub fn mark_of(text: &[u8]) -> u64 {
-    let mut at = front(text);
-    while at < text.len() {
-        let end = line_end(text, at);
-        let mark = mark_on(&text[at..end]);
-        if mark < NO_NUMBER {
-            return mark;
-        }
-        at = end;
-    }
-    NO_NUMBER
+// The mark of the problem that a plan says it was made for, if it says so.
+pub fn mark_of(text: &[u8]) -> Option<u32> {
+    text[front(text)..]
+        .split_inclusive(|b| *b == b'\n')
+        .find_map(mark_on)
 }

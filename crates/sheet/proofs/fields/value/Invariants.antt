@@ -1,10 +1,9 @@
--- A turn a word, which has a byte at least.
-use Prim.Native.Nat.{◌-◌, ◌≤◌}
-use lib.ListN.{length}
+-- Each turn goes on behind a word, which has a byte at least.
+use Rattle.std.proofs.Common.{length, ◌-◌, ◌≤◌}
 use Rattle.sheet.proofs.fields.value.Given as goal
 
-abbrev pub invariant-loop-at : goal.invariant-loop-at
-invariant-loop-at l = l.at ≤ length l.line
+abbrev pub invariant-loop-word : goal.invariant-loop-word
+invariant-loop-word l = l.at ≤ length l.line
 
-abbrev pub decreases-loop-at : goal.decreases-loop-at
-decreases-loop-at l = length l.line - l.at
+abbrev pub decreases-loop-word : goal.decreases-loop-word
+decreases-loop-word l = length l.line - l.at

@@ -1,11 +1,9 @@
--- A turn a line, which has a byte at least; the buffer stays as long as it was.
-use Prim.Native.Nat.{◌-◌, ◌≤◌}
-use mathlib.Core.Path.{◌≡◌}
-use lib.ListN.{length}
+-- The words put stand in the buffer.
+use Rattle.std.proofs.Common.{◌≤◌, length}
 use Rattle.sheet.proofs.reading.put_records.Given as goal
 
-abbrev pub invariant-loop-at : goal.invariant-loop-at
-invariant-loop-at l = (l.at ≤ length l.text) × (l.next ≤ length l.words) × (length l.words ≡ length l.initial.words)
-
-abbrev pub decreases-loop-at : goal.decreases-loop-at
-decreases-loop-at l = length l.text - l.at
+abbrev pub invariant-loop-line : goal.invariant-loop-line
+invariant-loop-line l =
+    (goal.iterator-loop-line).can_next l.line-iterator
+    × (goal.iterator-loop-line).is_finite l.line-iterator
+    × (l.next ≤ length l.words)

@@ -1,9 +1,0 @@
--- A turn a line, which has a byte at least.
-use Rattle.std.proofs.Common.{length, ◌-◌, ◌≤◌}
-use Rattle.wordlist.proofs.lines.mark_of.Given as goal
-
-abbrev pub invariant-loop-at : goal.invariant-loop-at
-invariant-loop-at l = l.at ≤ length l.text
-
-abbrev pub decreases-loop-at : goal.decreases-loop-at
-decreases-loop-at l = length l.text - l.at
