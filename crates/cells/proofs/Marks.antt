@@ -49,6 +49,3 @@ table_none p w wf = record {
   long = length-replicate {A = ℕ} cells 0;
   each = λ i c li lc. get_or-replicate {A = ℕ} cells (cell i c) 0 0 (omega (arith, wf.header.columns-most, wf.header.rows-most));
 }
-
-pub table-all : {p w t : List ℕ} {j n : ℕ} → Table p w j t → n ≡ messages p → j ≤ n → n ≤ j → Table p w (messages p) t
-table-all {p} {w} {t} {j} b e h l = let q : j ≡ messages p = omega arith in rw q at b

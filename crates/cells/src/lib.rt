@@ -9,7 +9,7 @@ ghost use Rattle.cells.specs.Table.{Table, Marked};
 
 use rules::words;
 
-// A matrix has at most 64 rows and 32 columns, so 2,048 cells.
+// A matrix has at most 64 rows and 32 columns, so 2,048 cells. Each is a byte, in which 0 says that no message starts there: an Option would take two bytes.
 pub const CELLS: usize = words::MOST_ROWS * words::MOST_COLUMNS;
 
 // Where row i and column c stand in the table, which has the cells row by row.
@@ -26,10 +26,8 @@ fn mark(table: &mut [u8; CELLS], c: usize, r: usize, step: usize, rows: usize, n
     requires table_len { length table.old ≡ cellCount }
     ensures { Marked table.old c r step rows number table.new }
 {
-    let mut i = r;
-    while i < rows {
+    for i in (r..rows).step_by(step) {
         table[cell_of(i, c)] = number;
-        i += step;
     }
 }
 
@@ -41,8 +39,7 @@ pub fn fill(p: &[u32], w: &[u32], table: &mut [u8; CELLS])
 {
     let messages = words::messages_of(p);
     let rows = words::rows_of(p);
-    let mut j: usize = 0;
-    while j < messages {
+    for j in 0..messages {
         mark(
             table,
             words::column_of(w, j),
@@ -51,6 +48,5 @@ pub fn fill(p: &[u32], w: &[u32], table: &mut [u8; CELLS])
             rows,
             (j + 1) as u8,
         );
-        j += 1;
     }
 }

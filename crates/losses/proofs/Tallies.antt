@@ -5,11 +5,12 @@ use mathlib.Core.Bool.{not}
 use mathlib.Core.List.{List}
 use native.Mathlib.Omega.{arith}
 use lib.Dec.{eqb}
-use borrow.Author.Tests.{eq-eqb, ne_eqb}
+use lib.ListN.{get_or}
 use Rattle.basics.specs.Sums.{sum}
 use Rattle.basics.proofs.Sums.{sum-next, sum-most, only-most}
 use Rattle.rules.specs.Problem.{rows, columns, messages, width, WellFormed}
 use Rattle.proposal.specs.Accepted.{Accepted}
+use Rattle.cells.specs.Cells.{cell}
 use Rattle.cells.specs.Table.{number_in, Table}
 use Rattle.cells.proofs.Owners.{number-most, holder}
 use Rattle.losses.specs.declared.Tally.{Tally}
@@ -18,23 +19,7 @@ use Rattle.losses.proofs.Terms.{over-same}
 use Rattle.losses.proofs.Cells.{cell-is}
 use Rattle.losses.proofs.Sum.{figure, figure-cells}
 
--- ---- one cell: empty, or held
-pub added-empty : {s r : Tally} {x wide : ℕ} → x ≡ 0 → r.used ≡ s.used → r.in_window ≡ s.in_window → r.empty ≡ s.empty + wide → Added s x wide r
-added-empty {s} {r} {x} {wide} e a b c = record { each = go }
-  where
-    go : (k : Part) → part k r ≡ part k s + share k x wide
-    go used-part = omega arith
-    go window-part = rw (eq-eqb x 0 e) (omega arith)
-    go empty-part = rw (eq-eqb x 0 e) c
-
-pub added-held : {s r : Tally} {x wide : ℕ} → ¬ (x ≡ 0) → r.used ≡ s.used + x → r.in_window ≡ s.in_window + (wide - x) → r.empty ≡ s.empty → Added s x wide r
-added-held {s} {r} {x} {wide} e a b c = record { each = go }
-  where
-    go : (k : Part) → part k r ≡ part k s + share k x wide
-    go used-part = a
-    go window-part = rw (ne_eqb x 0 e) b
-    go empty-part = rw (ne_eqb x 0 e) (omega arith)
-
+-- ---- one cell
 share-most : (k : Part) (x wide : ℕ) → x ≤ wide → share k x wide ≤ wide
 share-most used-part x wide h = h
 share-most window-part x wide h = omega (arith, only-most (not (eqb x 0)) (wide - x))
@@ -50,6 +35,10 @@ part_small h window-part = h.in_window
 part_small h empty-part = h.empty
 
 -- ---- one row
+-- how long a cell is held, by the number that was read of it
+pub held-read : (p t : List ℕ) (i c : ℕ) {x n m : ℕ} → x ≡ held_by p n → n ≡ get_or t m 0 → m ≡ cell i c → x ≡ held_by p (number_in t i c)
+held-read p t i c e f g = rw (← g, ← f) e
+
 module _ {p t : List ℕ} {i : ℕ} where
   pub row-none : {s : Tally} → RowAdded p t i 0 s s
   unfolding sum
@@ -59,10 +48,6 @@ module _ {p t : List ℕ} {i : ℕ} where
   row_more {n} h ex ew a =
       let cell = rw (ex, ew) at a in
       record { each = λ k. omega (arith, h.each k, cell.each k, sum-next n (λ c. share k (held_by p (number_in t i c)) (width p c))) }
-
-  -- all columns are seen
-  pub row-all : {n m : ℕ} {s r : Tally} → RowAdded p t i n s r → m ≡ columns p → n ≤ m → m ≤ n → RowAdded p t i (columns p) s r
-  row-all {n} h e l g = let q : n ≡ columns p = omega arith in rw q at h
 
 -- what cells of a row add at most
 module _ {p t : List ℕ} (wf : WellFormed p) (f : Fits p t) where
@@ -86,7 +71,7 @@ module _ {p t : List ℕ} (wf : WellFormed p) (f : Fits p t) where
         sum-most n row_most (λ i. row_share k p t i (columns p)) (λ i li. omega (arith, row-most i (omega arith) (columns p) (omega arith) k)),
       ))
 
-  pub all_small : {r : Tally} → Tallied p t (rows p) r → Small cells_most r
+  all_small : {r : Tally} → Tallied p t (rows p) r → Small cells_most r
   all_small h = let many = wf.header.rows-most in small (λ k. omega (arith, part_small (tallied-small (omega arith) h) k))
 
 -- ---- all rows
@@ -103,9 +88,6 @@ module _ {p t : List ℕ} where
   pub tallied-more : {n : ℕ} {r q : Tally} → Tallied p t n r → RowAdded p t n (columns p) r q → Tallied p t (n + 1) q
   tallied-more {n} h a = record { each = λ k. omega (arith, h.each k, a.each k, sum-next n (λ i. row_share k p t i (columns p))) }
 
-  pub tallied-all : {n m : ℕ} {r : Tally} → Tallied p t n r → m ≡ rows p → n ≤ m → m ≤ n → Tallied p t (rows p) r
-  tallied-all {n} h e l g = let q : n ≡ rows p = omega arith in rw q at h
-
 -- ---- the table of an accepted proposal fits, and its tally has the three figures of the cells
 module _ {p w t : List ℕ} (a : Accepted p w) (b : Table p w (messages p) t) where
   pub table_fits : Fits p t
@@ -113,6 +95,9 @@ module _ {p w t : List ℕ} (a : Accepted p w) (b : Table p w (messages p) t) wh
     number-most = λ i c li lc. number-most (holder a b i c li lc);
     each = λ i c li lc. rw (b.each i c li lc) (cell-is a i c li lc).held-most;
   }
+
+  pub tally-small : {r : Tally} → Tallied p t (rows p) r → Small cells_most r
+  tally-small h = all_small a.formed table_fits h
 
   pub tally-is : {r : Tally} → Tallied p t (rows p) r → (k : Part) → part k r ≡ figure k p w
   tally-is h k = h.each k ∙ over-same p _ _ (λ i c li lc. ap (λ (x : ℕ). share k (held_by p x) (width p c)) (b.each i c li lc)) ∙ sym (figure-cells a k)

@@ -1,9 +1,8 @@
 // Where the bus time of one matrix cycle goes.
 #![tactic(auto)]
 
-ghost use Rattle.std.specs.Prelude.{◌≡◌, [], ◌∷◌, ◌*◌, ◌<◌, ◌≤◌};
+ghost use Rattle.std.specs.Prelude.{◌≡◌, [], ◌∷◌, ◌*◌, ◌<◌, ◌≤◌, Ok};
 ghost use Rattle.rules.specs.Problem.{WellFormed, rows, columns as columnCount, messages as messageCount};
-ghost use Rattle.rules.specs.declared.Fault.TheVariants.{Clear};
 ghost use Rattle.losses.specs.Losses.{uncovered, FiguresAre};
 ghost use Rattle.proposal.specs.Accepted.{Accepted};
 ghost use Rattle.losses.specs.Parts.{held_by, Fits, Added, RowAdded, Tallied, longest, row_most, cells_most, Small};
@@ -21,10 +20,12 @@ pub struct BusTime {
 }
 
 // The five figures as words, in the paper's order.
-pub fn words_of(t: BusTime) -> [u32; 5]
-    ensures { result ≡ (t.reference ∷ t.used ∷ t.in_window ∷ t.empty ∷ t.gaps ∷ []) }
-{
-    [t.reference, t.used, t.in_window, t.empty, t.gaps]
+impl From<BusTime> for [u32; 5] {
+    ghost from_gives = { λ t w. w ≡ (t.reference ∷ t.used ∷ t.in_window ∷ t.empty ∷ t.gaps ∷ []) };
+
+    fn from(t: BusTime) -> [u32; 5] {
+        [t.reference, t.used, t.in_window, t.empty, t.gaps]
+    }
 }
 
 // What the cells seen so far come to.
@@ -33,6 +34,21 @@ pub struct Tally {
     pub used: usize,
     pub in_window: usize,
     pub empty: usize,
+}
+
+impl Tally {
+    // One cell more, which is held for x and is so wide.
+    fn add_cell(&mut self, x: usize, wide: usize)
+        requires { Small cells_most self.old × (x ≤ wide) × (wide ≤ longest) }
+        ensures { Added self.old x wide self.new }
+    {
+        if x == 0 {
+            self.empty += wide;
+        } else {
+            self.used += x;
+            self.in_window += wide - x;
+        }
+    }
 }
 
 // How long a cell with number x is held: by no message, or by message x - 1.
@@ -46,44 +62,16 @@ fn held_for(p: &[u32], x: usize) -> usize
     words::frame_of(p, x - 1)
 }
 
-// The tally with one cell more, which is held for x and is so wide.
-fn add_cell(t: Tally, x: usize, wide: usize) -> Tally
-    requires { Small cells_most t × (x ≤ wide) × (wide ≤ longest) }
-    ensures { Added t x wide result }
-{
-    if x == 0 {
-        return Tally {
-            used: t.used,
-            in_window: t.in_window,
-            empty: t.empty + wide,
-        };
-    }
-    Tally {
-        used: t.used + x,
-        in_window: t.in_window + (wide - x),
-        empty: t.empty,
-    }
-}
-
-// The tally of the rows before, with the cells of row i.
-fn add_row(p: &[u32], table: &[u8; cells::CELLS], i: usize, t: Tally) -> Tally
+// The cells of row i, added to those of the rows before.
+fn add_row(p: &[u32], table: &[u8; cells::CELLS], i: usize, tally: &mut Tally)
     requires well_formed { WellFormed p.now × Fits p.now table.now × (i < rows p.now) }
-    requires small { Small (i * row_most) t }
-    ensures { RowAdded p.now table.now i (columnCount p.now) t result }
+    requires small { Small (i * row_most) tally.old }
+    ensures { RowAdded p.now table.now i (columnCount p.now) tally.old tally.new }
 {
-    let columns = words::columns_of(p);
-    let mut sum = t;
-    let mut c: usize = 0;
-    while c < columns {
-        let next = add_cell(
-            sum,
-            held_for(p, usize::from(table[cells::cell_of(i, c)])),
-            words::width_of(p, c),
-        );
-        sum = next;
-        c += 1;
+    for c in 0..words::columns_of(p) {
+        let number = usize::from(table[cells::cell_of(i, c)]);
+        tally.add_cell(held_for(p, number), words::width_of(p, c));
     }
-    sum
 }
 
 // What all cells come to.
@@ -91,19 +79,15 @@ fn all_cells(p: &[u32], table: &[u8; cells::CELLS]) -> Tally
     requires { WellFormed p.now × Fits p.now table.now }
     ensures { Tallied p.now table.now (rows p.now) result }
 {
-    let rows = words::rows_of(p);
-    let mut sum = Tally {
+    let mut tally = Tally {
         used: 0,
         in_window: 0,
         empty: 0,
     };
-    let mut i: usize = 0;
-    while i < rows {
-        let next = add_row(p, table, i, sum);
-        sum = next;
-        i += 1;
+    for i in 0..words::rows_of(p) {
+        add_row(p, table, i, &mut tally);
     }
-    sum
+    tally
 }
 
 // What neither reference nor columns cover of a row.
@@ -111,12 +95,9 @@ fn gap_of(p: &[u32]) -> usize
     requires { WellFormed p.now }
     ensures { (result ≡ uncovered p.now) × (result ≤ longest) }
 {
-    let columns = words::columns_of(p);
     let mut covered = words::ref_len_of(p);
-    let mut c: usize = 0;
-    while c < columns {
+    for c in 0..words::columns_of(p) {
         covered += words::width_of(p, c);
-        c += 1;
     }
     words::cycle_of(p) - covered
 }
@@ -124,7 +105,7 @@ fn gap_of(p: &[u32]) -> usize
 // The five figures of an accepted proposal: the table of cells is filled from it, and a cell whose number stays 0 is empty.
 pub fn figures(p: &[u32], w: &[u32]) -> BusTime
     requires { Accepted p.now w.now }
-    ensures { FiguresAre Clear p.now w.now result }
+    ensures { FiguresAre (Ok tt) p.now w.now result }
 {
     let mut table = [0u8; cells::CELLS];
     cells::fill(p, w, &mut table);
