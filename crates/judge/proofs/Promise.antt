@@ -4,27 +4,28 @@ use mathlib.Core.Path.{◌≡◌, refl, sym, ap, ◌∙◌}
 use mathlib.Core.List.{List}
 use native.Mathlib.Omega.{arith}
 use lib.ListN.{take}
+use Rattle.std.specs.Prelude.{Result, Ok, Err, IsErrAnd}
 use Rattle.rules.specs.declared.Refusal.{Refusal}
 use Rattle.rules.specs.declared.Paper.{Paper}
+use Rattle.rules.specs.Paper.{paper}
 use Rattle.rules.specs.Problem.{matrix}
 use Rattle.rules.proofs.Exact.{exact}
-use Rattle.rules.proofs.Faults.{bad-not-clear, clear_both}
+use Rattle.rules.proofs.Faults.{bad-not-clear, clear_both, handed}
 use Rattle.rules.proofs.Told.{numbered, done-clear, Told, answered, refusing, told-one}
 use Rattle.problem.specs.File.{words_of}
 use Rattle.problem.proofs.Wrong.{file-formed}
 use Rattle.proposal.specs.Accept.{Admitted}
 use Rattle.proposal.specs.Accepted.{check_fault, Accepted as Faultless}
-use Rattle.proposal.proofs.Accepting.{clear-accepted}
+use Rattle.proposal.proofs.Accepting.{clear-accepted, admitted-length}
 use Rattle.losses.specs.declared.BusTime.{BusTime}
 use Rattle.losses.specs.Losses.{FiguresAre}
 use Rattle.losses.proofs.Five.{figures-one, figures-sum, reference-some}
-use Rattle.judge.specs.Answer.{paper, figures}
+use Rattle.judge.specs.Answer.{figures}
 use Rattle.judge.specs.Promise.{Judging}
-use Rattle.std.specs.Prelude.{Err, Ok, Result}
 
--- a refusal, of the file or of the proposal
-pub judging-refused : {f w : List ℕ} {q : Refusal} → check_fault f w ≡ Err q → Judging f w (Err q)
-judging-refused {f} {w} {q} h =
+-- a refusal, of the file or of the proposal, that is handed on
+refused-judging : {f w : List ℕ} {q : Refusal} → check_fault f w ≡ Err q → Judging f w (Err q)
+refused-judging {f} {w} {q} h =
     record {
       paper-is = rw h;
       exactly = λ p r.
@@ -34,6 +35,9 @@ judging-refused {f} {w} {q} h =
           );
       figures-are = rw h (record { reference-is = refl; used-is = refl; in-window-is = refl; empty-is = refl; gaps-is = refl });
     }
+
+pub judging-refused : (f w : List ℕ) (r : Result BusTime Refusal) {q : Refusal} → check_fault f w ≡ Err q → IsErrAnd r (λ u. u ≡ q) → Judging f w r
+judging-refused f w r h e = rw (handed e) (refused-judging h)
 
 -- the figures of the words that were read
 pub judging-accepted : {f w e : List ℕ} {n : ℕ} {t : BusTime} → Admitted f w e n → FiguresAre (Ok tt) (take n e) w t → Judging f w (Ok t)
@@ -45,8 +49,10 @@ judging-accepted {f} {w} a g =
       figures-are = rw a.clear (rw a.front at g);
     }
 
+pub ruleset judged = (judging-refused, admitted-length)
+
 -- number, places and figures settle the answer
-told : (r : (Result BusTime Refusal)) → Told Ok Err r (paper r) (figures r)
+told : (r : Result BusTime Refusal) → Told Ok Err r (paper r) (figures r)
 told (Ok t) = answered t
 told (Err q) = refusing q _
 

@@ -8,7 +8,7 @@ ghost use Rattle.margins.specs.Margins.{MarginAt, MarginOf};
 ghost use Rattle.margins.specs.Shares.{Nearest, whole, most_part};
 
 use losses::BusTime;
-use rules::{Fault, placing, words};
+use rules::{placing, words};
 
 // ---- a message
 
@@ -20,27 +20,24 @@ pub struct Margin {
     pub slack: usize,
 }
 
-// What message j has at column c and base row r: no wait and no slack where it cannot stand there.
+// What message j has at column c and base row r: no wait and no slack where it cannot stand there, as the promise says (MarginAt), so this is no Option.
 fn margin_at(p: &[u32], j: usize, c: usize, r: usize) -> Margin
     requires { Member p.now j }
     ensures { MarginAt p.now j c r result }
 {
     let frame = words::frame_of(p, j);
-    let fault = placing::own_fault(p, j, words::repeat_of(p, j), c, r);
-    match fault {
-        Fault::Bad(_) => Margin {
+    if placing::own_fault(p, j, words::repeat_of(p, j), c, r).is_err() {
+        return Margin {
             wait: 0,
             frame,
             slack: 0,
-        },
-        Fault::Clear => {
-            let wait = placing::wait_of(p, j, c, r);
-            Margin {
-                wait,
-                frame,
-                slack: words::deadline_of(p, j) - wait - frame,
-            }
-        }
+        };
+    }
+    let wait = placing::wait_of(p, j, c, r);
+    Margin {
+        wait,
+        frame,
+        slack: words::deadline_of(p, j) - wait - frame,
     }
 }
 
@@ -81,7 +78,11 @@ pub fn share_of(p: &[u32], j: usize) -> usize
 pub fn whole_of(t: BusTime) -> usize
     ensures { (result ≡ whole t) × (t.reference ≤ result) }
 {
-    t.reference as usize + t.used as usize + t.in_window as usize + t.empty as usize + t.gaps as usize
+    t.reference as usize
+        + t.used as usize
+        + t.in_window as usize
+        + t.empty as usize
+        + t.gaps as usize
 }
 
 // The load of the bus: the share of the time in which a reference message or a frame is sent.

@@ -1,17 +1,22 @@
 -- The words that the call writes are the lists, as many as its rule says, and its answer is what it promises.
-use Prim.Native.Nat.{ℕ, ◌+◌, ◌*◌, ◌<◌, ◌≤◌}
+use Prim.Native.Nat.{ℕ, ◌+◌, ◌*◌, ◌≤◌}
 use mathlib.Core.Path.{◌≡◌, refl, sym, ap, ap₂, ◌∙◌}
 use mathlib.Core.List.{List, [], ◌∷◌, ◌++◌}
 use native.Mathlib.Omega.{arith}
-use borrow.Author.Tests.{lt-ltb, le-ltb}
+use borrow.Author.Tests.{ltb-false}
+use lib.Dec.{ltb}
 use lib.ListN.{length, take, drop, length-append}
-use lib.Seq.{length-take-le}
+use Rattle.std.specs.Prelude.{Ok, Err, IsErrAnd}
 use Rattle.basics.specs.Runs.{Put}
 use Rattle.basics.specs.Sums.{sum}
 use Rattle.basics.proofs.Runs.{run-same, length_run}
 use Rattle.basics.proofs.Sums.{sum_same, sum-most, sum-times}
 use Rattle.basics.proofs.Written.{Begins, begins, length-pieces}
+use Rattle.rules.specs.declared.Refusal.{Refusal}
 use Rattle.rules.specs.declared.Refusal.TheVariants.{Room}
+use Rattle.rules.specs.Paper.{Answer, room_fault}
+use Rattle.rules.specs.Refusal.{guard}
+use Rattle.rules.proofs.Faults.{clear-guard, handed}
 use Rattle.rules.specs.Problem.{most_triggers, messages, nodes, triggers, WellFormed}
 use Rattle.rules.proofs.Told.{answers-done}
 use Rattle.proposal.specs.Accepted.{Accepted}
@@ -23,7 +28,6 @@ use Rattle.triggers.proofs.Determined.{lists-one}
 use Rattle.triggers.proofs.NodeLists.{list-for, length-for}
 use Rattle.triggers.proofs.Results.{lists-refused}
 use Rattle.triggers.proofs.Written.{length-entries}
-use Rattle.std.specs.Prelude.{Err, Ok}
 
 -- no well-formed problem has lists of more words
 pub size-most : {p : List ℕ} → WellFormed p → size p ≤ most_words
@@ -73,25 +77,22 @@ module _ {p w : List ℕ} (a : Accepted p w) where
     pub order_is : take m o ≡ order p w
     order_is = rw em h.front
 
-    pub order-long : m ≡ length (take m o)
-    order-long = sym (length-take-le m o (omega (arith, a.formed.header.messages-most, h.long)))
-
     pub whole_is : all_words p w ≡ counts_of p ++ lists_from p w (take m o)
     whole_is = ap (λ (t : List ℕ). counts_of p ++ lists_from p w t) (sym order_is)
 
-  -- ---- what is answered
+  -- ---- what is answered, where t is how many triggers there are together
   module _ (d : List ℕ) {t : ℕ} (et : t ≡ sum nodes (triggers p)) where
-    pub room-refused : length d < nodes + entry_words * t → ListingAccepted p w d d (Err Room)
+    tested : room_fault (size p) (length d) ≡ guard (ltb (length d) (nodes + entry_words * t)) Room
     unfolding size
-    room-refused l = lists-refused Room (rw (lt-ltb (length d) (size p) (omega arith)))
+    tested = rw et refl
 
-    pub room-there : nodes + entry_words * t ≤ length d → size p ≤ length d
-    unfolding size
-    room-there l = omega arith
+    pub room-refused : (r : Answer) {q : Refusal} → Err q ≡ guard (ltb (length d) (nodes + entry_words * t)) Room → IsErrAnd r (λ u. u ≡ q) → ListingAccepted p w d d r
+    room-refused r {q} h e = rw (handed e) (lists-refused q (tested ∙ sym h))
 
-    pub room-listed : {e : List ℕ} {r : ℕ} → nodes + entry_words * t ≤ length d → Put (all_words p w) d e r → ListingAccepted p w d e (Ok r)
-    room-listed l h = record {
-      lists = all_words p w;
-      lists-are = λ _. written-lists;
-      answers = answers-done refl refl (rw (le-ltb (length d) (size p) (room-there l))) (sym h.count) h.is;
-    }
+    module _ (h : Ok tt ≡ guard (ltb (length d) (nodes + entry_words * t)) Room) where
+      pub room-there : size p ≤ length d
+      unfolding size
+      room-there = omega (arith, ltb-false _ _ (clear-guard _ _ (sym h)))
+
+      pub room-listed : {e : List ℕ} {r : ℕ} → Put (all_words p w) d e r → ListingAccepted p w d e (Ok r)
+      room-listed put = record { lists = all_words p w; lists-are = λ _. written-lists; answers = answers-done (tested ∙ sym h) (sym put.count) put.is }

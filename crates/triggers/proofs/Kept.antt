@@ -6,6 +6,7 @@ use mathlib.Core.List.{List, [], ◌∷◌, ◌++◌, append_assoc, map, flatten
 use native.Mathlib.Omega.{arith}
 use lib.ListN.{length, get_or, take, drop, length-append, get_or-append}
 use lib.Seq.{take_at, drop_at}
+use Rattle.std.specs.Prelude.{Ok}
 use Rattle.basics.specs.Rising.{Rising, none, next, InOrder}
 use Rattle.basics.specs.Runs.{run}
 use Rattle.basics.specs.Sums.{sum}
@@ -21,7 +22,6 @@ use Rattle.triggers.specs.Lists.{Entered, entry_words, entry, Before, by-mark, b
 use Rattle.triggers.specs.Promise.{Listing}
 use Rattle.triggers.specs.Same.{SameTo, SameFor, count_in, list_in}
 use Rattle.triggers.proofs.Written.{length-entries}
-use Rattle.std.specs.Prelude.{Ok}
 
 -- ---- the order of entries by their words alone: by mark, then by row
 data Earlier (x y : List ℕ) : Type 0 where
@@ -157,7 +157,7 @@ record Front (p w e : List ℕ) : Type 0 where
 
 front : (f w d : List ℕ) {e : List ℕ} {r : ℕ} → Listing f w d e (Ok r) → Front (words_of f) w e
 front f w d h =
-    let clear = (answers-clear refl refl h.answers).0 in
+    let clear = (answers-clear h.answers).0 in
     record { lists = h.lists; rest = drop (length h.lists) d; lists-are = h.lists-are clear; is = sym (h.answers.buffer-is ∙ rw clear) }
 
 fronts-kept : {p w q v e c : List ℕ} {n : ℕ} → SameFor p w q v n → n < nodes → Front p w e → Front q v c → (count_in e n ≡ count_in c n) × (list_in e n ≡ list_in c n)

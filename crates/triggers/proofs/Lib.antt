@@ -2,7 +2,7 @@ pub mod Sorting
 pub mod Determined
 pub mod Choosing
 pub mod NodeLists
-pub mod Inserting
+pub mod Arranging
 pub mod Computed
 pub mod Written
 pub mod Kept

@@ -48,7 +48,7 @@ module _ {p w : List ℕ} (a : Accepted p w) where
   unfolding packed
   packed-number j l = omega (arith, few)
 
-  packed-apart : (i j : ℕ) → i < j → j < messages p → ¬ (packed p w i ≡ packed p w j)
+  pub packed-apart : (i j : ℕ) → i < j → j < messages p → ¬ (packed p w i ≡ packed p w j)
   packed-apart i j k l e = omega (arith, packed-number i (omega arith), packed-number j l, ap number_in e)
 
   packed-before : (i j : ℕ) → i < messages p → j < messages p → packed p w i < packed p w j → Before p w (message i) (message j)

@@ -1,6 +1,5 @@
 pub mod Lists
 pub mod Same
-pub mod Answer
 pub mod Promise
 pub mod Order
 pub mod Parts

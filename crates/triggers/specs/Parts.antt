@@ -1,11 +1,13 @@
 -- What the parts of the call ask and hand back.
-use Rattle.std.specs.Prelude.{ℕ, ◌*◌, ◌<◌, ◌≤◌, ◌≡◌, cond, List, ◌++◌, length, take, drop}
+use Rattle.std.specs.Prelude.{ℕ, ◌*◌, ◌<◌, ◌≤◌, ◌≡◌, true, false, List, ◌++◌, length, take, drop, Option, MatchOption}
 use Rattle.basics.specs.Runs.{run}
 use Rattle.basics.specs.Sums.{sum}
 use Rattle.rules.specs.Parts.{Member}
 use Rattle.rules.specs.Problem.{most_triggers, most_rows, most_messages, columns, Gives, column, row, nodes, triggers}
 use Rattle.rules.specs.Sends.{message}
 use Rattle.proposal.specs.Accepted.{Accepted}
+use Rattle.triggers.specs.declared.Role.{Role}
+use Rattle.triggers.specs.declared.Role.TheVariants.{Sends, Receives}
 use Rattle.triggers.specs.Lists.{concerns, kind}
 use Rattle.triggers.specs.Order.{packed, sorted, order, count_word}
 
@@ -26,9 +28,14 @@ pub record Arranged (p w o : List ℕ) : Type 0 where
   pub accepted : Accepted p w
   pub order_is : o ≡ order p w
 
--- the kind of message j's entry for node n, and 0 where it has none
-abbrev pub role : List ℕ → ℕ → ℕ → ℕ
-role p n j = cond (concerns p n j) (kind p n (message j)) 0
+-- the kind of the entry of a message, by what the node does with it
+abbrev pub number : Role → ℕ
+number Sends = 1
+number Receives = 2
+
+-- r says that message j concerns node n, and of which kind its entry is, or that it does not
+abbrev pub RoleOf : List ℕ → ℕ → ℕ → Option Role → Type 0
+RoleOf p n j r = MatchOption r (concerns p n j ≡ false) (λ k. (concerns p n j ≡ true) × (kind p n (message j) ≡ number k))
 
 -- c has the triggers of nodes 0 to n - 1, t together, in front of what d has
 pub record Counts (p d c : List ℕ) (n t : ℕ) : Type 0 where

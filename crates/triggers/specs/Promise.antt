@@ -1,6 +1,6 @@
 -- What the call promises.
 use Rattle.std.specs.Prelude.{ℕ, ◌≡◌, List, length, Ok}
-use Rattle.rules.specs.Paper.{Answers, room_fault, Answer, count_of, paper}
+use Rattle.rules.specs.Paper.{Answers, Answer, room_fault}
 use Rattle.rules.specs.Refusal.{◌⊕◌, Fault}
 use Rattle.problem.specs.File.{words_of}
 use Rattle.proposal.specs.Accepted.{check_fault}
