@@ -1,77 +1,74 @@
 // Document 02, request g): T1 planned again with placements to keep, after a message has come and another has gone too.
 use crate::document_01;
 use rules::words::{MOST_PROPOSAL, MOST_WORDS};
+use trial::show::Wanted;
 use trial::{build, show};
 
 // A problem planned again with what a text keeps.
-fn again(title: &[u8], problem: &[u32], kept: &[u8], wanted: [u32; 3], wanted_plan: &[u8]) {
+fn again(title: &[u8], problem: &[u32], kept: &[u8], wanted: Wanted<&[u8]>) {
     let mut k = [0u32; MOST_PROPOSAL];
     let n = build::words(kept, &mut k);
-    show::replan(title, problem, &k[..n], wanted, wanted_plan);
+    show::replan(title, problem, &k[..n], wanted);
 }
 
 // What is kept stays, and the others get the least places beside it.
 fn kept(problem: &[u32]) {
-    again(
-        b"T1 with nothing kept",
-        problem,
-        b"4294967295 4294967295  4294967295 4294967295  4294967295 4294967295",
-        show::NONE,
-        b"0 0 1 1 1 0",
-    );
-    again(
-        b"T1 with message 48 kept at 2 0",
-        problem,
-        b"4294967295 4294967295  4294967295 4294967295  2 0",
-        show::NONE,
-        b"0 0 1 1 2 0",
-    );
-    again(
-        b"T1 with message 48 kept at 1 1, the one place for message 32",
-        problem,
-        b"4294967295 4294967295  4294967295 4294967295  1 1",
-        [14, 0, 0],
-        b"",
-    );
-    again(
-        b"T1 with all kept, which is not its least plan",
-        problem,
-        b"0 0 1 1 2 1",
-        show::NONE,
-        b"0 0 1 1 2 1",
-    );
+    let cases: [(&[u8], &[u8], Wanted<&[u8]>); 4] = [
+        (
+            b"T1 with nothing kept",
+            b"4294967295 4294967295  4294967295 4294967295  4294967295 4294967295",
+            Ok(b"0 0 1 1 1 0"),
+        ),
+        (
+            b"T1 with message 48 kept at 2 0",
+            b"4294967295 4294967295  4294967295 4294967295  2 0",
+            Ok(b"0 0 1 1 2 0"),
+        ),
+        (
+            b"T1 with message 48 kept at 1 1, the one place for message 32",
+            b"4294967295 4294967295  4294967295 4294967295  1 1",
+            Err([14, 0, 0]),
+        ),
+        (
+            b"T1 with all kept, which is not its least plan",
+            b"0 0 1 1 2 1",
+            Ok(b"0 0 1 1 2 1"),
+        ),
+    ];
+    for (title, kept, wanted) in cases {
+        again(title, problem, kept, wanted);
+    }
 }
 
 // What is to be kept has a fault.
 fn refused(problem: &[u32]) {
-    again(
-        b"T1 with half a none for message 32",
-        problem,
-        b"4294967295 4294967295  1 4294967295  4294967295 4294967295",
-        [10, 1, 0],
-        b"",
-    );
-    again(
-        b"T1 with words for two messages",
-        problem,
-        b"0 0  4294967295 4294967295",
-        [9, 0, 0],
-        b"",
-    );
-    again(
-        b"T1 with messages 32 and 48 kept at 1 1",
-        problem,
-        b"4294967295 4294967295  1 1  1 1",
-        [13, 2, 1],
-        b"",
-    );
+    let cases: [(&[u8], &[u8], [u32; 3]); 3] = [
+        (
+            b"T1 with half a none for message 32",
+            b"4294967295 4294967295  1 4294967295  4294967295 4294967295",
+            [10, 1, 0],
+        ),
+        (
+            b"T1 with words for two messages",
+            b"0 0  4294967295 4294967295",
+            [9, 0, 0],
+        ),
+        (
+            b"T1 with messages 32 and 48 kept at 1 1",
+            b"4294967295 4294967295  1 1  1 1",
+            [13, 2, 1],
+        ),
+    ];
+    for (title, kept, wanted) in cases {
+        again(title, problem, kept, Err(wanted));
+    }
 }
 
 // Messages on T1's grid, planned again.
 fn on_the_grid(title: &[u8], header: &[u8], messages: &[u8], kept: &[u8], wanted_plan: &[u8]) {
     let mut p = [0u32; MOST_WORDS];
     let n = build::problem(header, b"65 135  200 100  300 100", messages, &mut p);
-    again(title, &p[..n], kept, show::NONE, wanted_plan);
+    again(title, &p[..n], kept, Ok(wanted_plan));
 }
 
 // A message comes to T1's plan; then message 32 goes, and its place can be used.

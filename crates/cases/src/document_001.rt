@@ -2,6 +2,7 @@
 ghost use Rattle.io.specs.Counts.{IsPrefixLen};
 
 use rules::words::MOST_WORDS;
+use trial::show::Wanted;
 use trial::{build, show};
 
 // Where the first message's deadline stands.
@@ -52,14 +53,13 @@ fn hard(words: &mut [u32]) -> usize
 }
 
 // The column and the row of each message in table 4.2, each in a window as long as its frame; 66 of 96 cells are empty.
-fn table_4_2(title: &[u8], problem: &[u32], wanted: [u32; 3]) {
+fn table_4_2(title: &[u8], problem: &[u32], wanted: Wanted<&[u8]>) {
     show::judge(
         title,
         problem,
         b"0 1  1 1  2 1  0 2  1 2  0 3  0 5  1 5  2 5  0 6  1 7  2 7  0 8  1 8  0 14
       1 14  2 14  0 15  0 19  1 19  2 19  0 20  1 21  2 21  0 22  1 22  1 26  2 26  0 27  1 27",
         wanted,
-        b"2080 4050 0 8910 10560",
     );
 }
 
@@ -68,17 +68,21 @@ pub fn run() {
     paper::text(b"Document 001\n");
     let mut p = [0u32; MOST_WORDS];
     let n = hard(&mut p);
-    table_4_2(b"table 4.2, all due 135 after release", &p[..n], show::NONE);
+    table_4_2(
+        b"table 4.2, all due 135 after release",
+        &p[..n],
+        Ok(b"2080 4050 0 8910 10560"),
+    );
     build::set(&mut p, LAST_DEADLINE, 134);
     table_4_2(
         b"table 4.2, the last due 134 after release",
         show::front(&p, n),
-        [12, 29, 0],
+        Err([12, 29, 0]),
     );
     build::set(&mut p, FIRST_DEADLINE, 134);
     table_4_2(
         b"table 4.2, the first due 134 after release",
         show::front(&p, n),
-        [12, 0, 0],
+        Err([12, 0, 0]),
     );
 }

@@ -36,7 +36,7 @@ fn example(words: &mut [u32]) -> usize
 fn planned(problem: &[u32]) {
     let plan: &[u8] =
         b"0 0  1 0  2 0  3 0  3 1  4 0  4 1  5 0  5 1  5 3  6 0  6 1  6 2  6 3  6 6  6 7";
-    show::plan(b"the example", problem, 0, plan);
+    show::plan(b"the example", problem, Ok(plan));
     show::accepted(
         b"the example and its plan",
         problem,
@@ -67,24 +67,26 @@ fn lists(problem: &[u32], plan: &[u8]) {
 
 // The matrices as the figures have them.
 fn figures(problem: &[u32]) {
-    show::accepted(
-        b"figure 2",
-        problem,
-        b"0 0  1 0  2 0  3 0  4 0  5 0  6 0  7 0  8 0  9 0  10 0  11 0  12 0  13 0  14 0  15 0",
-        b"624 7560 827 10989 0",
-    );
-    show::accepted(
-        b"figure 3",
-        problem,
-        b"0 0  1 0  5 0  6 0  10 0  11 0  15 0  6 1  10 1  11 1  15 1  10 3  11 3  15 3  11 7  15 7",
-        b"624 7560 1016 10800 0",
-    );
-    show::accepted(
-        b"figure 4",
-        problem,
-        b"1 0  3 0  5 0  7 0  9 0  11 0  13 0  7 1  9 1  11 1  13 1  9 3  11 3  13 3  11 7  13 7",
-        b"624 7560 840 10976 0",
-    );
+    let cases: [(&[u8], &[u8], &[u8]); 3] = [
+        (
+            b"figure 2",
+            b"0 0  1 0  2 0  3 0  4 0  5 0  6 0  7 0  8 0  9 0  10 0  11 0  12 0  13 0  14 0  15 0",
+            b"624 7560 827 10989 0",
+        ),
+        (
+            b"figure 3",
+            b"0 0  1 0  5 0  6 0  10 0  11 0  15 0  6 1  10 1  11 1  15 1  10 3  11 3  15 3  11 7  15 7",
+            b"624 7560 1016 10800 0",
+        ),
+        (
+            b"figure 4",
+            b"1 0  3 0  5 0  7 0  9 0  11 0  13 0  7 1  9 1  11 1  13 1  9 3  11 3  13 3  11 7  13 7",
+            b"624 7560 840 10976 0",
+        ),
+    ];
+    for (title, proposal, losses) in cases {
+        show::accepted(title, problem, proposal, losses);
+    }
 }
 
 // Every case of the document.

@@ -5,27 +5,32 @@ use trial::show;
 // In every busy period the first instance is the worst, so that document 02 changes none of these.
 pub fn run() {
     paper::text(b"Document 004\n");
-    show::responses(
-        b"table 1, set B, of which 10.8 16.2 21.6 27.0 32.4 37.8 ms are in time",
-        b"1 8 2000 0 2000
-          2 8 1000 0 1000
-          3 8 1000 0 1000
-          4 8 1000 0 1000
-          5 8 1000 0 1000
-          6 8 3750 0 3750
-          7 8  750 0  750",
-        b"270 405 540 675 810 945 0",
-        1,
-    );
-    show::responses(
-        b"table 1, set A",
-        b"1 8 2000 0 2000
-          2 8 1000 0 1000
-          3 8 1000 0 1000
-          4 8 1000 0 1000
-          5 8 1000 0 1000
-          6 8 3750 0 3750",
-        b"270 405 540 675 810 810",
-        0,
-    );
+    let cases: [(&[u8], &[u8], &[u8], u32); 2] = [
+        (
+            b"table 1, set B, of which 10.8 16.2 21.6 27.0 32.4 37.8 ms are in time",
+            b"1 8 2000 0 2000
+              2 8 1000 0 1000
+              3 8 1000 0 1000
+              4 8 1000 0 1000
+              5 8 1000 0 1000
+              6 8 3750 0 3750
+              7 8  750 0  750",
+            b"270 405 540 675 810 945 0",
+            1,
+        ),
+        (
+            b"table 1, set A",
+            b"1 8 2000 0 2000
+              2 8 1000 0 1000
+              3 8 1000 0 1000
+              4 8 1000 0 1000
+              5 8 1000 0 1000
+              6 8 3750 0 3750",
+            b"270 405 540 675 810 810",
+            0,
+        ),
+    ];
+    for (title, events, times, misses) in cases {
+        show::responses(title, events, times, misses);
+    }
 }

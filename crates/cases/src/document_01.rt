@@ -2,6 +2,7 @@
 ghost use Rattle.io.specs.Counts.{IsPrefixLen};
 
 use rules::words::MOST_WORDS;
+use trial::show::Wanted;
 use trial::{build, show};
 
 // Where message 32's deadline stands in T1.
@@ -33,24 +34,14 @@ pub fn t1_with(columns: &[u8], words: &mut [u32]) -> usize
 
 // A frame takes 55 NTU and 10 for each data byte: that is the response time of an event that is alone.
 fn lengths() {
-    show::responses(
-        b"0 data bytes alone on the bus",
-        b"1 0 1000 0 1000",
-        b"55",
-        0,
-    );
-    show::responses(
-        b"1 data byte alone on the bus",
-        b"1 1 1000 0 1000",
-        b"65",
-        0,
-    );
-    show::responses(
-        b"8 data bytes alone on the bus",
-        b"1 8 1000 0 1000",
-        b"135",
-        0,
-    );
+    let cases: [(&[u8], &[u8], &[u8]); 3] = [
+        (b"0 data bytes alone on the bus", b"1 0 1000 0 1000", b"55"),
+        (b"1 data byte alone on the bus", b"1 1 1000 0 1000", b"65"),
+        (b"8 data bytes alone on the bus", b"1 8 1000 0 1000", b"135"),
+    ];
+    for (title, event, time) in cases {
+        show::responses(title, event, time, 0);
+    }
 }
 
 // T1's lists, word by word.
@@ -75,7 +66,7 @@ fn first() {
     let problem = &p[..n];
     let plan: &[u8] = b"0 0 1 1 1 0";
     show::round_trip(b"T1", problem);
-    show::plan(b"T1", problem, 0, plan);
+    show::plan(b"T1", problem, Ok(plan));
     show::accepted(b"T1 and its plan", problem, plan, b"130 430 40 200 0");
     t1_lists(problem, plan);
     show::refused(b"T1 and 0 0 1 1 1 1", problem, b"0 0 1 1 1 1", [13, 2, 1]);
@@ -85,20 +76,18 @@ fn first() {
 fn deadlines() {
     let mut p = [0u32; MOST_WORDS];
     let n = t1(&mut p);
-    build::set(&mut p, DEADLINE_32, 265);
-    show::plan(
-        b"T1 with deadline 265 for message 32",
-        show::front(&p, n),
-        0,
-        b"0 0 1 1 1 0",
-    );
-    build::set(&mut p, DEADLINE_32, 264);
-    show::plan(
-        b"T1 with deadline 264 for message 32",
-        show::front(&p, n),
-        14,
-        b"",
-    );
+    let cases: [(&[u8], u32, Wanted<&[u8]>); 2] = [
+        (
+            b"T1 with deadline 265 for message 32",
+            265,
+            Ok(b"0 0 1 1 1 0"),
+        ),
+        (b"T1 with deadline 264 for message 32", 264, Err([14, 0, 0])),
+    ];
+    for (title, deadline, wanted) in cases {
+        build::set(&mut p, DEADLINE_32, deadline);
+        show::plan(title, show::front(&p, n), wanted);
+    }
 }
 
 // T1's grid with no messages.
@@ -123,35 +112,40 @@ fn no_messages() {
         b"0 0",
         [9, 0, 0],
     );
-    show::plan(b"no messages", problem, 0, b"");
+    show::plan(b"no messages", problem, Ok(b""));
 }
 
 // The events of the table by document 02's rule: the third's second instance is the worst, with 470.
 fn events() {
-    show::responses(
-        b"three events of 8 bytes",
-        b"1 8 337 0 337  2 8 475 0 475  3 8 475 0 440",
-        b"270 405 0",
-        1,
-    );
-    show::responses(
-        b"the third with deadline 404",
-        b"1 8 337 0 337  2 8 475 0 475  3 8 475 0 404",
-        b"270 405 0",
-        1,
-    );
-    show::responses(
-        b"the third with deadline 469",
-        b"1 8 337 0 337  2 8 475 0 475  3 8 475 0 469",
-        b"270 405 0",
-        1,
-    );
-    show::responses(
-        b"the third with deadline 475",
-        b"1 8 337 0 337  2 8 475 0 475  3 8 475 0 475",
-        b"270 405 470",
-        0,
-    );
+    let cases: [(&[u8], &[u8], &[u8], u32); 4] = [
+        (
+            b"three events of 8 bytes",
+            b"1 8 337 0 337  2 8 475 0 475  3 8 475 0 440",
+            b"270 405 0",
+            1,
+        ),
+        (
+            b"the third with deadline 404",
+            b"1 8 337 0 337  2 8 475 0 475  3 8 475 0 404",
+            b"270 405 0",
+            1,
+        ),
+        (
+            b"the third with deadline 469",
+            b"1 8 337 0 337  2 8 475 0 475  3 8 475 0 469",
+            b"270 405 0",
+            1,
+        ),
+        (
+            b"the third with deadline 475",
+            b"1 8 337 0 337  2 8 475 0 475  3 8 475 0 475",
+            b"270 405 470",
+            0,
+        ),
+    ];
+    for (title, events, times, misses) in cases {
+        show::responses(title, events, times, misses);
+    }
 }
 
 // First fit places the message of 4 bytes in the one column that has room for the other.
@@ -162,8 +156,7 @@ fn first_fit() {
         b"65 135  200 100  300 100",
         b"16 0 4 2 400 0 400
           32 0 8 2 400 0 400",
-        0,
-        b"1 0 0 0",
+        Ok(b"1 0 0 0"),
     );
 }
 
@@ -205,8 +198,7 @@ fn beyond_the_first_cycle() {
     show::plan(
         b"released at 350, due at 450, one column at 200",
         problem,
-        14,
-        b"",
+        Err([14, 0, 0]),
     );
 }
 

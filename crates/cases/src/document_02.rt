@@ -1,8 +1,9 @@
 // Document 02, request a): logs held against T1 and its plan, and the list that is due.
-ghost use Rattle.std.specs.Prelude.{◌<◌, ◌≤◌};
+ghost use Rattle.std.specs.Prelude.{◌<◌};
 
 use crate::document_01;
 use rules::words::MOST_WORDS;
+use trial::show::Wanted;
 use trial::{build, show};
 
 // The words of T1's log over one matrix cycle, and over 100.
@@ -34,132 +35,112 @@ fn log_word(i: usize) -> u32
 }
 
 // T1's log over 100 matrix cycles.
-fn t1_log(words: &mut [u32]) {
-    let mut i: usize = 0;
-    while i < HUNDRED {
-        build::set(words, i, log_word(i));
-        i += 1;
+fn t1_log(words: &mut [u32; HUNDRED]) {
+    for (i, word) in words.iter_mut().enumerate() {
+        *word = log_word(i);
     }
 }
 
+// What is wanted of a log that is held: none where it is clean, or where it differs and what was due there.
+type WantedLog<'a> = Wanted<Option<&'a [u8]>>;
+
 // A log held against T1's plan.
-fn held(title: &[u8], problem: &[u32], log: &[u32], span: u32, number: u32, wanted: &[u8]) {
-    show::hold(title, problem, b"0 0 1 1 1 0", log, span, number, wanted);
+fn held(title: &[u8], problem: &[u32], log: &[u32], span: u32, wanted: WantedLog) {
+    show::hold(title, problem, b"0 0 1 1 1 0", log, span, wanted);
 }
 
-// The list that is due by T1's plan.
-fn due(title: &[u8], problem: &[u32], span: u32, room: usize, number: u32, wanted: &[u32])
-    requires { room ≤ 1208 }
-{
-    show::due(title, problem, b"0 0 1 1 1 0", span, room, number, wanted);
-}
-
-// A log as text, over one matrix cycle: refused with the number, or where it differs and what was due there.
-fn text(title: &[u8], problem: &[u32], log: &[u8], number: u32, wanted: &[u8]) {
+// A log as text, over one matrix cycle.
+fn text(title: &[u8], problem: &[u32], log: &[u8], wanted: WantedLog) {
     let mut l = [0u32; TEXT_WORDS];
     let n = build::words(log, &mut l);
-    held(title, problem, &l[..n], 1, number, wanted);
+    held(title, problem, &l[..n], 1, wanted);
 }
 
 // The logs that are clean, and what they are over other spans.
 fn clean(problem: &[u32], log: &[u32]) {
     let one = show::front(log, ONE);
-    held(b"T1's log over a matrix cycle", problem, one, 1, 0, b"");
-    held(
-        b"T1's log over 100 matrix cycles",
-        problem,
-        log,
-        100,
-        0,
-        b"",
-    );
-    held(
-        b"the same over 99",
-        problem,
-        log,
-        99,
-        0,
-        b"594 4294967295 4294967295",
-    );
-    held(
-        b"T1's log of a matrix cycle over two",
-        problem,
-        one,
-        2,
-        0,
-        b"6 800 1",
-    );
+    let cases: [(&[u8], &[u32], u32, WantedLog); 4] = [
+        (b"T1's log over a matrix cycle", one, 1, Ok(None)),
+        (b"T1's log over 100 matrix cycles", log, 100, Ok(None)),
+        (
+            b"the same over 99",
+            log,
+            99,
+            Ok(Some(b"594 4294967295 4294967295")),
+        ),
+        (
+            b"T1's log of a matrix cycle over two",
+            one,
+            2,
+            Ok(Some(b"6 800 1")),
+        ),
+    ];
+    for (title, log, span, wanted) in cases {
+        held(title, problem, log, span, wanted);
+    }
 }
 
-// A log of one matrix cycle that differs: the index, and the pair that was due.
+// A log of one matrix cycle that differs, or ends too early or too late: the index, and the pair that was due.
 fn differing(problem: &[u32]) {
-    text(
-        b"two pairs swapped",
-        problem,
-        b"0 1  200 48  65 16  400 1  465 16  600 32",
-        0,
-        b"1 65 16",
-    );
-    text(
-        b"the second reference missing",
-        problem,
-        b"0 1  65 16  200 48  465 16  600 32",
-        0,
-        b"3 400 1",
-    );
-    text(
-        b"message 32 in row 0 and 48 in row 1",
-        problem,
-        b"0 1  65 16  200 32  400 1  465 16  600 48",
-        0,
-        b"2 200 48",
-    );
-    text(
-        b"a reference one late",
-        problem,
-        b"0 1  65 16  200 48  401 1  465 16  600 32",
-        0,
-        b"3 400 1",
-    );
-}
-
-// A log that ends too early or too late.
-fn of_wrong_length(problem: &[u32]) {
-    text(
-        b"a pair too many",
-        problem,
-        b"0 1  65 16  200 48  400 1  465 16  600 32  800 1",
-        0,
-        b"6 4294967295 4294967295",
-    );
-    text(
-        b"a pair too many, of the words that say nothing was due",
-        problem,
-        b"0 1  65 16  200 48  400 1  465 16  600 32  4294967295 4294967295",
-        0,
-        b"6 4294967295 4294967295",
-    );
-    text(
-        b"the last pair missing",
-        problem,
-        b"0 1  65 16  200 48  400 1  465 16",
-        0,
-        b"5 600 32",
-    );
-    text(b"an empty log", problem, b"", 0, b"0 0 1");
+    let cases: [(&[u8], &[u8], &[u8]); 8] = [
+        (
+            b"two pairs swapped",
+            b"0 1  200 48  65 16  400 1  465 16  600 32",
+            b"1 65 16",
+        ),
+        (
+            b"the second reference missing",
+            b"0 1  65 16  200 48  465 16  600 32",
+            b"3 400 1",
+        ),
+        (
+            b"message 32 in row 0 and 48 in row 1",
+            b"0 1  65 16  200 32  400 1  465 16  600 48",
+            b"2 200 48",
+        ),
+        (
+            b"a reference one late",
+            b"0 1  65 16  200 48  401 1  465 16  600 32",
+            b"3 400 1",
+        ),
+        (
+            b"a pair too many",
+            b"0 1  65 16  200 48  400 1  465 16  600 32  800 1",
+            b"6 4294967295 4294967295",
+        ),
+        (
+            b"a pair too many, of the words that say nothing was due",
+            b"0 1  65 16  200 48  400 1  465 16  600 32  4294967295 4294967295",
+            b"6 4294967295 4294967295",
+        ),
+        (
+            b"the last pair missing",
+            b"0 1  65 16  200 48  400 1  465 16",
+            b"5 600 32",
+        ),
+        (b"an empty log", b"", b"0 0 1"),
+    ];
+    for (title, log, difference) in cases {
+        text(title, problem, log, Ok(Some(difference)));
+    }
 }
 
 // An odd count of words, and spans that are not from 1 to 100.
 fn refused(problem: &[u32], log: &[u32]) {
-    text(b"a log of three words", problem, b"0 1 65", 24, b"");
-    held(b"T1's log over no matrix cycle", problem, log, 0, 24, b"");
+    text(b"a log of three words", problem, b"0 1 65", Err([24, 0, 0]));
+    held(
+        b"T1's log over no matrix cycle",
+        problem,
+        log,
+        0,
+        Err([24, 0, 0]),
+    );
     held(
         b"T1's log over 101 matrix cycles",
         problem,
         log,
         101,
-        24,
-        b"",
+        Err([24, 0, 0]),
     );
     show::hold(
         b"a log of three words and a proposal of five",
@@ -167,59 +148,34 @@ fn refused(problem: &[u32], log: &[u32]) {
         b"0 0 1 1 1",
         show::front(log, 3),
         101,
-        9,
-        b"",
+        Err([9, 0, 0]),
     );
 }
 
-// The list that is due is T1's log.
+// The list that is due by T1's plan is T1's log, or it is refused: too little room, and spans that are not from 1 to 100.
 fn lists(problem: &[u32], log: &[u32]) {
     let one = show::front(log, ONE);
-    due(
-        b"T1 over a matrix cycle",
-        problem,
-        1,
-        show::LENT_WORDS,
-        0,
-        one,
-    );
-    due(
-        b"T1 over 100 matrix cycles",
-        problem,
-        100,
-        show::LENT_WORDS,
-        0,
-        log,
-    );
-    due(
-        b"the same with just the room",
-        problem,
-        100,
-        HUNDRED,
-        0,
-        log,
-    );
-}
-
-// The list is refused: too little room, and spans that are not from 1 to 100.
-fn lists_refused(problem: &[u32]) {
-    due(
-        b"the same with a word less",
-        problem,
-        100,
-        HUNDRED - 1,
-        16,
-        &[],
-    );
-    due(
-        b"T1 over no matrix cycle",
-        problem,
-        0,
-        show::LENT_WORDS,
-        24,
-        &[],
-    );
-    due(b"T1 over 101 matrix cycles", problem, 101, 0, 24, &[]);
+    let cases: [(&[u8], u32, usize, Wanted<&[u32]>); 6] = [
+        (b"T1 over a matrix cycle", 1, show::LENT_WORDS, Ok(one)),
+        (b"T1 over 100 matrix cycles", 100, show::LENT_WORDS, Ok(log)),
+        (b"the same with just the room", 100, HUNDRED, Ok(log)),
+        (
+            b"the same with a word less",
+            100,
+            HUNDRED - 1,
+            Err([16, 0, 0]),
+        ),
+        (
+            b"T1 over no matrix cycle",
+            0,
+            show::LENT_WORDS,
+            Err([24, 0, 0]),
+        ),
+        (b"T1 over 101 matrix cycles", 101, 0, Err([24, 0, 0])),
+    ];
+    for (title, span, room, wanted) in cases {
+        show::due(title, problem, b"0 0 1 1 1 0", span, room, wanted);
+    }
 }
 
 // Every case of the request.
@@ -233,8 +189,6 @@ pub fn run() {
     let log: &[u32] = &l;
     clean(problem, log);
     differing(problem);
-    of_wrong_length(problem);
     refused(problem, log);
     lists(problem, log);
-    lists_refused(problem);
 }

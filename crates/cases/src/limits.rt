@@ -1,5 +1,5 @@
 // The largest matrix, full, and buses that are wanted whole, or more than that.
-ghost use Rattle.std.specs.Prelude.{◌<◌};
+ghost use Rattle.std.specs.Prelude.{◌<◌, ◌≤◌};
 
 use rules::words::{MOST_PROPOSAL, MOST_WORDS};
 use trial::{build, moving, show};
@@ -32,25 +32,10 @@ const WIDTH: u32 = 2045;
 const FREE: u32 = kept::NONE as u32;
 
 // The nodes that receive what a node sends: the next six.
-fn receivers(node: usize) -> u32 {
-    match node {
-        0 => 0x007E,
-        1 => 0x00FC,
-        2 => 0x01F8,
-        3 => 0x03F0,
-        4 => 0x07E0,
-        5 => 0x0FC0,
-        6 => 0x1F80,
-        7 => 0x3F00,
-        8 => 0x7E00,
-        9 => 0xFC00,
-        10 => 0xF801,
-        11 => 0xF003,
-        12 => 0xE007,
-        13 => 0xC00F,
-        14 => 0x801F,
-        _ => 0x003F,
-    }
+fn receivers(node: u32) -> u32
+    requires { node < 16 }
+{
+    u32::from(0x003Fu16.rotate_left(node + 1))
 }
 
 // Column c: all are of one width, one behind the other.
@@ -62,10 +47,8 @@ fn column(c: usize) -> [u32; COLUMN_WORDS]
 
 // The 32 columns, behind the header.
 fn columns(words: &mut [u32]) {
-    let mut c: usize = 0;
-    while c < COLUMNS {
+    for c in 0..COLUMNS {
         build::put(&column(c), HEADER_WORDS + COLUMN_WORDS * c, words);
-        c += 1;
     }
 }
 
@@ -73,23 +56,14 @@ fn columns(words: &mut [u32]) {
 fn message(j: usize) -> [u32; MESSAGE_WORDS]
     requires { j < 64 }
 {
-    [
-        j as u32 + 1,
-        (j % 16) as u32,
-        8,
-        receivers(j % 16),
-        131070,
-        0,
-        131070,
-    ]
+    let node = (j % 16) as u32;
+    [j as u32 + 1, node, 8, receivers(node), 131070, 0, 131070]
 }
 
 // The 64 messages, behind the columns.
 fn messages(words: &mut [u32]) {
-    let mut j: usize = 0;
-    while j < MESSAGES {
+    for j in 0..MESSAGES {
         build::put(&message(j), FIRST_MESSAGE + MESSAGE_WORDS * j, words);
-        j += 1;
     }
 }
 
@@ -119,8 +93,7 @@ fn again(problem: &[u32], proposal: &[u8]) {
         b"the same with 17 messages free",
         problem,
         show::front(&kept, n),
-        [15, 0, 0],
-        b"",
+        Err([15, 0, 0]),
     );
     build::words(proposal, &mut kept);
     build::put(&[FREE; 32], 0, &mut kept);
@@ -128,8 +101,7 @@ fn again(problem: &[u32], proposal: &[u8]) {
         b"the same with 16 messages free",
         problem,
         show::front(&kept, n),
-        show::NONE,
-        proposal,
+        Ok(proposal),
     );
 }
 
@@ -145,8 +117,7 @@ fn full_matrix(problem: &[u32], proposal: &[u8]) {
     show::plan(
         b"the same, which are more than 16 messages",
         problem,
-        15,
-        b"",
+        Err([15, 0, 0]),
     );
     again(problem, proposal);
 }
@@ -167,6 +138,15 @@ fn full_lists(problem: &[u32], proposal: &[u8]) {
     );
 }
 
+// Response times refused, each with so much room for them.
+fn refused(cases: &[(&[u8], &[u8], [u32; 3])], room: usize)
+    requires { room ≤ 64 }
+{
+    for (title, events, wanted) in cases {
+        show::responses_refused(title, events, room, *wanted);
+    }
+}
+
 // A bus that is wanted just whole: it comes to rest if nothing blocks it and nothing is late.
 fn whole_bus() {
     show::responses(
@@ -175,17 +155,16 @@ fn whole_bus() {
         b"135",
         0,
     );
-    show::responses_refused(
-        b"the same with a jitter of 1",
-        b"1 8 135 1 135",
+    refused(
+        &[
+            (b"the same with a jitter of 1", b"1 8 135 1 135", [19, 0, 0]),
+            (
+                b"the same with another event, which blocks it",
+                b"1 8 135 0 135  2 0 4194304 0 4194304",
+                [19, 0, 0],
+            ),
+        ],
         show::LENT_TIMES,
-        [19, 0, 0],
-    );
-    show::responses_refused(
-        b"the same with another event, which blocks it",
-        b"1 8 135 0 135  2 0 4194304 0 4194304",
-        show::LENT_TIMES,
-        [19, 0, 0],
     );
 }
 
@@ -197,45 +176,54 @@ fn longest_busy() {
         b"0 1887",
         1,
     );
-    show::responses_refused(
-        b"the same with a longer one",
-        b"1 6 117 0 117  2 3 4973 1688 4973",
+    refused(
+        &[
+            (
+                b"the same with a longer one",
+                b"1 6 117 0 117  2 3 4973 1688 4973",
+                [19, 1, 0],
+            ),
+            (
+                b"the same with that event first",
+                b"2 3 4973 1688 4973  1 6 117 0 117",
+                [19, 0, 0],
+            ),
+        ],
         show::LENT_TIMES,
-        [19, 1, 0],
-    );
-    show::responses_refused(
-        b"the same with that event first",
-        b"2 3 4973 1688 4973  1 6 117 0 117",
-        show::LENT_TIMES,
-        [19, 0, 0],
     );
 }
 
 // Two events that each want the whole bus, and one with the longest period and deadline.
 fn overload() {
-    show::responses_refused(
-        b"two events that each want the whole bus, and one more",
-        b"1 8 135 0 135  2 8 135 0 135  3 8 4194304 0 4194304",
+    refused(
+        &[
+            (
+                b"two events that each want the whole bus, and one more",
+                b"1 8 135 0 135  2 8 135 0 135  3 8 4194304 0 4194304",
+                [19, 0, 0],
+            ),
+            (
+                b"the same with a wrong event behind them",
+                b"1 8 135 0 135  2 8 135 0 135  3 9 4194304 0 4194304",
+                [18, 2, 0],
+            ),
+        ],
         show::LENT_TIMES,
-        [19, 0, 0],
     );
-    show::responses_refused(
-        b"the same with a wrong event behind them",
-        b"1 8 135 0 135  2 8 135 0 135  3 9 4194304 0 4194304",
-        show::LENT_TIMES,
-        [18, 2, 0],
-    );
-    show::responses_refused(
-        b"the same with no room",
-        b"1 8 135 0 135  2 8 135 0 135  3 8 4194304 0 4194304",
+    refused(
+        &[
+            (
+                b"the same with no room",
+                b"1 8 135 0 135  2 8 135 0 135  3 8 4194304 0 4194304",
+                [19, 0, 0],
+            ),
+            (
+                b"an event that takes the whole bus, with no room",
+                b"1 8 135 0 135",
+                [16, 0, 0],
+            ),
+        ],
         0,
-        [19, 0, 0],
-    );
-    show::responses_refused(
-        b"an event that takes the whole bus, with no room",
-        b"1 8 135 0 135",
-        0,
-        [16, 0, 0],
     );
 }
 

@@ -7,11 +7,13 @@ fn append(text: &[u8], at: usize, words: &mut [u32]) -> usize
     requires { at ≤ length words.old }
     ensures { IsPrefixLen result words.new }
 {
-    let got = wordlist::parse(text, &mut words[at..]);
-    if got.at < text.len() {
-        paper::line(b"a text has more than its words");
+    match wordlist::parse(text, &mut words[at..]) {
+        Ok(count) => at + count,
+        Err(stop) => {
+            paper::line(b"a text has more than its words");
+            at + stop.count
+        }
     }
-    at + got.count
 }
 
 // The words of a text in the front of a buffer; answers how many.
@@ -30,27 +32,16 @@ pub fn problem(header: &[u8], columns: &[u8], messages: &[u8], words: &mut [u32]
     append(messages, behind_columns, words)
 }
 
-// Another word in one place.
-pub fn set(words: &mut [u32], at: usize, word: u32) {
-    if at < words.len() {
-        words[at] = word;
-    }
-}
-
-// Another byte in one place.
-pub fn set_byte(bytes: &mut [u8], at: usize, byte: usize) {
-    if at < bytes.len() {
-        bytes[at] = (byte % 256) as u8;
+// Another word, or another byte, in one place.
+pub fn set<T: Copy>(list: &mut [T], at: usize, value: T) {
+    if let Some(x) = list.get_mut(at) {
+        *x = value;
     }
 }
 
 // Words in the place of those from a place on, as far as the buffer has room.
 pub fn put(part: &[u32], at: usize, words: &mut [u32]) {
-    let mut i: usize = 0;
-    let mut to = at;
-    while i < part.len() && to < words.len() {
-        words[to] = part[i];
-        i += 1;
-        to += 1;
+    for (word, x) in words.iter_mut().skip(at).zip(part) {
+        *word = *x;
     }
 }

@@ -6,13 +6,12 @@ mod compare;
 mod record;
 
 ghost use Rattle.std.specs.Prelude.{◌≤◌};
-ghost use Rattle.io.specs.Counts.{IsPrefixLen};
 
-use calls::NUMBERS;
-use compare::Difference;
+use calls::{Call, ToBytes, ToWords};
+use compare::{Difference, compare};
 use record::{
-    BLOCK_BYTES, INPUT_BYTES, INPUT_WORDS, LIST_BYTES, LIST_WORDS, LOG_BYTES, LOG_WORDS, MOST_ROOM,
-    Number, OUTPUT_BYTES, Record, Sizes,
+    Broken, Buffers, Case, INPUT_WORDS, LIST_WORDS, LOG_BYTES, LOG_WORDS, MOST_ROOM, are_words,
+    gather,
 };
 use std::io::Read;
 use std::rt::{Env, Files};
@@ -23,238 +22,157 @@ const MARK: u32 = 0x54535632;
 // How many disagreements of a file are shown.
 const SHOWN: u32 = 20;
 
-// Whether a case was run and what came of it; where it could not be run, that has been said.
-#[derive(Drop)]
-enum Ran {
-    Agrees(bool),
-    Stopped,
-}
-
 // Starts a line about a case.
 fn start_line(name: &[u8], at: u32) {
     paper::text(name);
-    paper::text(b": case ");
-    paper::count(at);
+    paper::text_count(b": case ", at);
 }
 
 // Says why the cases end here.
-fn stop(name: &[u8], at: u32, why: &[u8]) -> Ran {
+fn stop(name: &[u8], at: u32, why: Broken) {
     start_line(name, at);
-    paper::text(why);
-    Ran::Stopped
-}
-
-// Says why a record could not be read.
-fn stop_at(name: &[u8], at: u32, got: Record) -> Ran {
-    match got {
-        Record::Whole(_) | Record::CutShort => stop(name, at, b" is cut short\n"),
-        Record::TooLong => stop(
-            name,
-            at,
-            b" has a part that is longer than any case needs\n",
-        ),
-    }
+    paper::line(why.text());
 }
 
 // Whether the words are whole that a call takes and writes.
-fn has_whole_words(call: u8, size: Sizes) -> bool {
-    let is_input = !calls::takes_words(call) | record::are_words(size.input);
-    let is_output = calls::writes_bytes(call) | record::are_words(size.output);
+fn has_whole_words(call: Call, case: &Case) -> bool {
+    let is_input = !call.takes_words() | are_words(case.input);
+    let is_output = call.writes_bytes() | are_words(case.output);
     is_input & is_output
 }
 
-// The output that is expected: for a written file one byte to a word, else four.
-fn output_of(call: u8, output: &[u8], words: &mut [u32]) -> usize
-    ensures { IsPrefixLen result words.new }
-{
-    if calls::writes_bytes(call) {
-        return record::spread(output, words);
-    }
-    record::gather(output, words)
-}
-
-// Runs a call and holds what comes out to what is expected.
-fn try_call(
-    call: u8,
-    file: &[u8],
-    words: &[u32],
-    proposal: &[u32],
-    lent: &mut [u8],
-    buffer: &mut [u32],
-    block: &[u8; BLOCK_BYTES],
-    output: &[u8],
-    output_2: usize,
-) -> Difference {
-    let mut wanted = [0u32; MOST_ROOM];
-    let n = output_of(call, output, &mut wanted);
-    let expected = compare::expected(block, calls::count(call, output.len()), output_2);
-    let got = calls::run(call, file, words, proposal, lent, buffer);
-    compare::compare(got, expected, buffer, &wanted[..n], calls::pattern(call))
-}
-
-// Runs a case in buffers of its own: input A also as words, and what is lent full of the pattern, as bytes and as words.
-fn run_case(
-    call: u8,
-    input: &[u8],
-    proposal: &[u8],
-    room: usize,
-    block: &[u8; BLOCK_BYTES],
-    output: &[u8],
-    output_2: usize,
-) -> Difference
+// Runs a call that writes bytes, in buffers of its own: input A also as words, and what is lent full of the pattern.
+fn bytes_case(call: ToBytes, case: &Case, room: usize) -> Result<(), Difference>
     requires { room ≤ 8192 }
 {
-    let mut a = [0u32; INPUT_WORDS];
-    let in_a = record::gather(input, &mut a);
-    let mut b = [0u32; LIST_WORDS];
-    let in_b = record::gather(proposal, &mut b);
+    let mut words = [0u32; INPUT_WORDS];
+    let n = gather(case.input, &mut words);
     let mut lent = [calls::BYTE_PATTERN; MOST_ROOM];
-    let mut buffer = [calls::WORD_PATTERN; MOST_ROOM];
-    try_call(
+    let got = calls::run_bytes(call, case.input, &words[..n], &mut lent[..room]);
+    let expected = case.expected(case.output.len());
+    compare(
+        &got,
+        &expected,
+        &lent[..room],
+        case.output,
+        calls::BYTE_PATTERN,
+    )
+}
+
+// Runs a call that writes words, or nothing, in the same way.
+fn words_case(call: ToWords, case: &Case, room: usize) -> Result<(), Difference>
+    requires { room ≤ 8192 }
+{
+    let mut words = [0u32; INPUT_WORDS];
+    let n = gather(case.input, &mut words);
+    let mut proposal = [0u32; LIST_WORDS];
+    let m = gather(case.proposal, &mut proposal);
+    let mut output = [0u32; MOST_ROOM];
+    let k = gather(case.output, &mut output);
+    let mut lent = [calls::WORD_PATTERN; MOST_ROOM];
+    let got = calls::run_words(
         call,
-        input,
-        &a[..in_a],
-        &b[..in_b],
+        case.input,
+        &words[..n],
+        &proposal[..m],
         &mut lent[..room],
-        &mut buffer[..room],
-        block,
-        output,
-        output_2,
+    );
+    let expected = case.expected(case.output.len() / record::WORD);
+    compare(
+        &got,
+        &expected,
+        &lent[..room],
+        &output[..k],
+        calls::WORD_PATTERN,
     )
 }
 
 // Holds the list that is due, and what is behind it in a longer buffer, to a log that is clean.
-fn try_due(file: &[u8], proposal: &[u32], log: &[u32], span: u32) -> Difference {
+fn try_due(file: &[u8], proposal: &[u32], log: &[u32], span: u32) -> Result<(), Difference> {
     let mut due = [calls::WORD_PATTERN; LOG_WORDS];
     let got = calls::due(file, proposal, span, &mut due);
-    compare::compare(got, calls::done(log.len()), &due, log, calls::WORD_PATTERN)
-}
-
-// Holds a log against the plan and the answer to what is expected. A log that is clean is the list that is due.
-fn try_log(
-    file: &[u8],
-    proposal: &[u32],
-    log: &[u32],
-    span: u32,
-    expected: [u64; NUMBERS],
-) -> Difference {
-    let got = calls::hold(file, proposal, log, span);
-    let d = compare::compare(got, expected, &[], &[], calls::WORD_PATTERN);
-    let Difference::None = d else {
-        return d;
-    };
-    if !calls::is_clean(got) {
-        return Difference::None;
-    }
-    try_due(file, proposal, log, span)
-}
-
-// Runs a case with a log in buffers of its own.
-fn log_case(
-    file: &[u8],
-    proposal: &[u8],
-    log: &[u8],
-    block: &[u8; BLOCK_BYTES],
-    output: usize,
-    output_2: usize,
-) -> Difference {
-    let mut b = [0u32; LIST_WORDS];
-    let in_b = record::gather(proposal, &mut b);
-    let mut c = [basics::FILL; LOG_WORDS];
-    let in_c = record::gather(log, &mut c);
-    try_log(
-        file,
-        &b[..in_b],
-        &c[..in_c],
-        record::span(block),
-        compare::expected(block, output, output_2),
+    compare(
+        &got,
+        &calls::done(log.len()),
+        &due,
+        log,
+        calls::WORD_PATTERN,
     )
 }
 
+// Holds a log against the plan and the answer to what is expected. A log that is clean is the list that is due.
+fn try_log(case: &Case, proposal: &[u32], log: &[u32]) -> Result<(), Difference> {
+    let got = calls::hold(case.input, proposal, log, case.span());
+    let expected = case.expected(case.output.len());
+    compare(&got, &expected, &[], &[], calls::WORD_PATTERN)?;
+    if calls::is_clean(&got) {
+        try_due(case.input, proposal, log, case.span())?;
+    }
+    Ok(())
+}
+
+// Runs a case with a log in buffers of its own.
+fn log_case(case: &Case) -> Result<(), Difference> {
+    let mut proposal = [0u32; LIST_WORDS];
+    let n = gather(case.proposal, &mut proposal);
+    let mut log = [basics::FILL; LOG_WORDS];
+    let m = gather(case.log, &mut log);
+    try_log(case, &proposal[..n], &log[..m])
+}
+
 // Runs a case that has been read, unless there is no such call or its lengths cannot be.
-fn try_case(
-    call: u8,
-    size: Sizes,
-    room: usize,
-    input: &[u8],
-    proposal: &[u8],
-    log: &[u8],
-    block: &[u8; BLOCK_BYTES],
-    output: &[u8],
-) -> Difference
+fn try_case(case: &Case, room: usize) -> Result<(), Difference>
     requires { room ≤ 8192 }
 {
-    if !calls::is_call(call) {
-        return Difference::NoCall;
+    let call = Call::try_from(case.call).map_err(|_| Difference::NoCall)?;
+    if !has_whole_words(call, case) {
+        return Err(Difference::NoWords);
     }
-    if !has_whole_words(call, size) {
-        return Difference::NoWords;
+    match call {
+        Call::Bytes(call) => bytes_case(call, case, room),
+        Call::Words(call) => words_case(call, case, room),
+        Call::Hold => log_case(case),
     }
-    let a = record::front(input, size.input);
-    let b = record::front(proposal, size.proposal);
-    let o = record::front(output, size.output);
-    if calls::takes_log(call) {
-        let c = record::front(log, size.log);
-        return log_case(a, b, c, block, o.len(), size.output_2);
-    }
-    run_case(call, a, b, room, block, o, size.output_2)
 }
 
-// Shows the first difference of a case, and answers whether there is none.
-fn show(name: &[u8], at: u32, is_shown: bool, call: u8, d: Difference) -> bool {
-    if let Difference::None = d {
-        return true;
-    }
-    if is_shown {
-        start_line(name, at);
-        paper::text(b", ");
-        calls::name(call);
-        paper::text(b": ");
-        compare::tell(d);
-    }
-    false
+// Shows the first difference of a case.
+fn show(name: &[u8], at: u32, call: u8, d: Difference) {
+    start_line(name, at);
+    paper::text(b", ");
+    calls::tell(call);
+    paper::text(b": ");
+    compare::tell(d);
 }
 
-// Reads the next case and runs it. The buffer for its log is the file's: it is too long to be filled for each case.
-fn next_case<F: Read>(file: &mut F, name: &[u8], at: u32, is_shown: bool, log: &mut [u8]) -> Ran {
-    let mut head = [0u8; 1];
-    let mut input = [0u8; INPUT_BYTES];
-    let mut proposal = [0u8; LIST_BYTES];
-    let mut block = [0u8; BLOCK_BYTES];
-    let mut output = [0u8; OUTPUT_BYTES];
-    if host::read_full(file, &mut head) != 1 {
-        return stop(name, at, b" is missing\n");
-    }
-    let call = head[0];
-    let got = record::read_record(
-        file,
-        &mut input,
-        &mut proposal,
-        log,
-        &mut block,
-        &mut output,
-    );
-    let Record::Whole(size) = got else {
-        return stop_at(name, at, got);
-    };
-    let room = record::room(&block);
+// Reads the next case and runs it; answers whether it agrees, or why it could not be read.
+fn next_case<F: Read>(
+    file: &mut F,
+    name: &[u8],
+    at: u32,
+    is_shown: bool,
+    log: &mut [u8],
+) -> Result<bool, Broken> {
+    let mut buffers = Buffers::new();
+    let case = record::read_record(file, &mut buffers, log)?;
+    let room = case.room();
     if MOST_ROOM < room {
-        return stop_at(name, at, Record::TooLong);
+        return Err(Broken::TooLong);
     }
-    let d = try_case(call, size, room, &input, &proposal, log, &block, &output);
-    Ran::Agrees(show(name, at, is_shown, call, d))
+    let tried = try_case(&case, room);
+    if let Err(d) = tried
+        && is_shown
+    {
+        show(name, at, case.call, d);
+    }
+    Ok(tried.is_ok())
 }
 
 // The number of cases of a file that starts as one.
-fn start_file<F: Read>(file: &mut F) -> Number {
-    let start = record::read_number(file);
-    let Number::Is(mark) = start else {
-        return Number::Missing;
-    };
-    if mark != MARK {
-        return Number::Missing;
+fn start_file<F: Read>(file: &mut F) -> Option<u32> {
+    if record::read_number(file).ok()? != MARK {
+        return None;
     }
-    record::read_number(file)
+    record::read_number(file).ok()
 }
 
 // The last line of a file, and whether there is more in it than its cases.
@@ -265,32 +183,27 @@ fn end_file<F: Read>(file: &mut F, name: &[u8], cases: u32, agree: u32) {
         paper::text(b": there is more behind the last case\n");
         paper::text(name);
     }
-    paper::text(b": ");
-    paper::count(cases);
-    paper::text(b" cases, ");
-    paper::count(agree);
+    paper::text_count(b": ", cases);
+    paper::text_count(b" cases, ", agree);
     paper::text(b" agree\n");
 }
 
 // Runs the cases of a file, up to the last or to one that cannot be read. The first SHOWN that differ are shown.
 fn run_cases<F: Read>(file: &mut F, name: &[u8], log: &mut [u8]) {
-    let start = start_file(file);
-    let Number::Is(count) = start else {
+    let Some(count) = start_file(file) else {
         paper::text(name);
         paper::text(b": this is no file of cases\n");
         return;
     };
-    let mut at: u32 = 0;
     let mut agree: u32 = 0;
-    while at < count {
-        let ran = next_case(file, name, at, at - agree < SHOWN, log);
-        let Ran::Agrees(is_same) = ran else {
-            return;
-        };
-        if is_same {
-            agree += 1;
+    for at in 0..count {
+        match next_case(file, name, at, at - agree < SHOWN, log) {
+            Ok(agrees) => agree += u32::from(agrees),
+            Err(why) => {
+                stop(name, at, why);
+                return;
+            }
         }
-        at += 1;
     }
     end_file(file, name, count, agree);
 }
@@ -313,10 +226,7 @@ fn run_argument(rt: &(impl Env + Files), i: usize) {
 // Runs the file of this name.
 fn run_named(rt: &impl Files, name: &[u8]) {
     match host::open_read(rt, name) {
-        Ok(file) => {
-            let mut file = file;
-            run_file(&mut file, name);
-        }
+        Ok(mut file) => run_file(&mut file, name),
         Err(e) => host::fail(name, &e),
     }
 }
@@ -327,9 +237,7 @@ fn main(rt: HostRuntime) {
     if count < 2 {
         paper::text(b"vectors FILE..: runs the prepared cases of each file\n");
     }
-    let mut i: usize = 1;
-    while i < count {
+    for i in 1..count {
         run_argument(&rt, i);
-        i += 1;
     }
 }

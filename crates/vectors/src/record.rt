@@ -2,6 +2,7 @@
 ghost use Rattle.std.specs.Prelude.{◌+◌, ◌≤◌};
 ghost use Rattle.io.specs.Counts.{IsPrefixLen};
 
+use crate::calls::NUMBERS;
 use std::io::Read;
 
 // The bytes of a word.
@@ -33,218 +34,205 @@ pub const OUTPUT_BYTES: usize = WORD * MOST_ROOM;
 
 // The bytes of the block of numbers between the inputs and the outputs: span, room and room 2; then what is expected, that is number,
 // place, second place and five figures. Behind it are the places in the block of those that are read here.
-pub const BLOCK_BYTES: usize = 41;
+const BLOCK_BYTES: usize = 41;
 
 const SPAN: usize = 0;
 
 const ROOM: usize = 4;
 
-pub const NUMBER: usize = 12;
+const NUMBER: usize = 12;
 
-pub const PLACE: usize = 13;
+const PLACE: usize = 13;
 
-pub const SECOND_PLACE: usize = 17;
+const SECOND_PLACE: usize = 17;
 
-pub const FIGURES: usize = 21;
+const FIGURES: usize = 21;
 
-// How many bytes of a part came, or why it could not be had.
-#[derive(Drop)]
-pub enum Part {
-    Bytes(usize),
+// Why a case could not be read.
+#[derive(Clone, Copy)]
+pub enum Broken {
+    Missing,
     CutShort,
     TooLong,
 }
 
-// A number of four bytes, or that the file ends before it.
-#[derive(Drop)]
-pub enum Number {
-    Is(u32),
-    Missing,
+impl Broken {
+    // The end of a line that says so.
+    pub fn text(self) -> &'static [u8] {
+        match self {
+            Broken::Missing => b" is missing",
+            Broken::CutShort => b" is cut short",
+            Broken::TooLong => b" has a part that is longer than any case needs",
+        }
+    }
 }
 
-// The number that four bytes are.
-fn joined(a: u8, b: u8, c: u8, d: u8) -> u32 {
-    ((u32::from(a) * 256 + u32::from(b)) * 256 + u32::from(c)) * 256 + u32::from(d)
+// The parts of a record: its call's number, the inputs, the block, the output that is expected, and how long the second is to be.
+#[derive(Clone, Copy)]
+pub struct Case<'a> {
+    pub call: u8,
+    pub input: &'a [u8],
+    pub proposal: &'a [u8],
+    pub log: &'a [u8],
+    pub block: &'a [u8; BLOCK_BYTES],
+    pub output: &'a [u8],
+    pub output_2: usize,
 }
 
 // The number of four bytes at a place of the block.
-pub fn number_at(block: &[u8; BLOCK_BYTES], at: usize) -> u32
+fn number_at(block: &[u8; BLOCK_BYTES], at: usize) -> u32
     requires { at + 4 ≤ 41 }
 {
-    joined(block[at], block[at + 1], block[at + 2], block[at + 3])
+    u32::from_be_bytes([block[at], block[at + 1], block[at + 2], block[at + 3]])
 }
 
-// How many matrix cycles a log is held against.
-pub fn span(block: &[u8; BLOCK_BYTES]) -> u32 {
-    number_at(block, SPAN)
+impl<'a> Case<'a> {
+    // How many matrix cycles a log is held against.
+    pub fn span(&self) -> u32 {
+        number_at(self.block, SPAN)
+    }
+
+    // How many words or bytes are lent for the output.
+    pub fn room(&self) -> usize {
+        number_at(self.block, ROOM) as usize
+    }
+
+    // The answer that is expected, where so much is written.
+    pub fn expected(&self, written: usize) -> [u64; NUMBERS] {
+        let block = self.block;
+        [
+            u64::from(block[NUMBER]),
+            u64::from(number_at(block, PLACE)),
+            u64::from(number_at(block, SECOND_PLACE)),
+            u64::from(number_at(block, FIGURES)),
+            u64::from(number_at(block, FIGURES + 4)),
+            u64::from(number_at(block, FIGURES + 8)),
+            u64::from(number_at(block, FIGURES + 12)),
+            u64::from(number_at(block, FIGURES + 16)),
+            written as u64,
+            self.output_2 as u64,
+        ]
+    }
 }
 
-// How many words or bytes are lent for the output.
-pub fn room(block: &[u8; BLOCK_BYTES]) -> usize {
-    number_at(block, ROOM) as usize
+// Reads as many bytes as a buffer has.
+fn fill<F: Read>(file: &mut F, buffer: &mut [u8]) -> Result<(), Broken> {
+    if host::read_full(file, buffer) == buffer.len() {
+        Ok(())
+    } else {
+        Err(Broken::CutShort)
+    }
 }
 
 // Reads a number of four bytes.
-pub fn read_number<F: Read>(file: &mut F) -> Number {
+pub fn read_number<F: Read>(file: &mut F) -> Result<u32, Broken> {
     let mut b = [0u8; WORD];
-    let came = host::read_full(file, &mut b);
-    if came != WORD {
-        return Number::Missing;
-    }
-    Number::Is(joined(b[0], b[1], b[2], b[3]))
+    fill(file, &mut b)?;
+    Ok(u32::from_be_bytes(b))
 }
 
 // Reads a part of a known length into the front of a buffer.
-fn read_bytes<F: Read>(file: &mut F, length: usize, buffer: &mut [u8]) -> Part {
-    if buffer.len() < length {
-        return Part::TooLong;
-    }
-    let came = host::read_full(file, &mut buffer[..length]);
-    if came != length {
-        return Part::CutShort;
-    }
-    Part::Bytes(length)
+fn read_bytes<'a, F: Read>(
+    file: &mut F,
+    length: usize,
+    buffer: &'a mut [u8],
+) -> Result<&'a [u8], Broken> {
+    let part = buffer.get_mut(..length).ok_or(Broken::TooLong)?;
+    fill(file, part)?;
+    Ok(part)
 }
 
 // Reads a part of bytes: its length, then the bytes.
-fn read_text<F: Read>(file: &mut F, buffer: &mut [u8]) -> Part {
-    let length = read_number(file);
-    let Number::Is(count) = length else {
-        return Part::CutShort;
-    };
+fn read_text<'a, F: Read>(file: &mut F, buffer: &'a mut [u8]) -> Result<&'a [u8], Broken> {
+    let count = read_number(file)?;
     read_bytes(file, count as usize, buffer)
 }
 
 // Reads a part of words: how many, then four bytes each.
-fn read_list<F: Read>(file: &mut F, buffer: &mut [u8]) -> Part {
-    let length = read_number(file);
-    let Number::Is(count) = length else {
-        return Part::CutShort;
-    };
+fn read_list<'a, F: Read>(file: &mut F, buffer: &'a mut [u8]) -> Result<&'a [u8], Broken> {
+    let count = read_number(file)?;
     read_bytes(file, WORD * count as usize, buffer)
 }
 
-// Reads list C, a log, and past list D, which no call takes yet; answers how many bytes the log has.
-fn read_log<F: Read>(file: &mut F, log: &mut [u8]) -> Part {
-    let third = read_list(file, log);
-    let Part::Bytes(n) = third else {
-        return third;
-    };
+// Reads list C, a log, and past list D, which no call takes yet.
+fn read_log<'a, F: Read>(file: &mut F, log: &'a mut [u8]) -> Result<&'a [u8], Broken> {
+    let third = read_list(file, log)?;
     let mut list = [0u8; LIST_BYTES];
-    let fourth = read_list(file, &mut list);
-    let Part::Bytes(_) = fourth else {
-        return fourth;
-    };
-    Part::Bytes(n)
+    read_list(file, &mut list)?;
+    Ok(third)
 }
 
-// Reads past the second output, which no call has yet; its length is compared.
-fn pass_output<F: Read>(file: &mut F) -> Part {
+// Reads past the second output, which no call has yet; answers its length, which is compared.
+fn pass_output<F: Read>(file: &mut F) -> Result<usize, Broken> {
     let mut output = [0u8; LIST_BYTES];
-    read_text(file, &mut output)
+    let second = read_text(file, &mut output)?;
+    Ok(second.len())
 }
 
-// How many bytes the parts of a record have.
-#[derive(Clone, Copy)]
-pub struct Sizes {
-    pub input: usize,
-    pub proposal: usize,
-    pub log: usize,
-    pub output: usize,
-    pub output_2: usize,
-}
-
-// A record, or why it could not be had.
+// Where a record's parts are read to. The buffer for its log is the file's: it is too long to be filled for each case.
 #[derive(Drop)]
-pub enum Record {
-    Whole(Sizes),
-    CutShort,
-    TooLong,
+pub struct Buffers {
+    input: [u8; INPUT_BYTES],
+    proposal: [u8; LIST_BYTES],
+    block: [u8; BLOCK_BYTES],
+    output: [u8; OUTPUT_BYTES],
 }
 
-// What a part that could not be had makes of its record.
-fn broken(p: Part) -> Record {
-    match p {
-        Part::Bytes(_) | Part::CutShort => Record::CutShort,
-        Part::TooLong => Record::TooLong,
+impl Buffers {
+    // Buffers for one record.
+    pub fn new() -> Buffers {
+        Buffers {
+            input: [0; INPUT_BYTES],
+            proposal: [0; LIST_BYTES],
+            block: [0; BLOCK_BYTES],
+            output: [0; OUTPUT_BYTES],
+        }
     }
 }
 
-// Reads the parts of a record behind its call, each into the front of its own buffer.
-pub fn read_record<F: Read>(
+// Reads a record, each part into the front of its own buffer.
+pub fn read_record<'a, F: Read>(
     file: &mut F,
-    input: &mut [u8],
-    proposal: &mut [u8],
-    log: &mut [u8],
-    block: &mut [u8; BLOCK_BYTES],
-    output: &mut [u8],
-) -> Record {
-    let of_input = read_text(file, input);
-    let Part::Bytes(a) = of_input else {
-        return broken(of_input);
-    };
-    let of_proposal = read_list(file, proposal);
-    let Part::Bytes(b) = of_proposal else {
-        return broken(of_proposal);
-    };
-    let of_log = read_log(file, log);
-    let Part::Bytes(c) = of_log else {
-        return broken(of_log);
-    };
-    if host::read_full(file, block) != BLOCK_BYTES {
-        return Record::CutShort;
-    }
-    let of_output = read_text(file, output);
-    let Part::Bytes(o) = of_output else {
-        return broken(of_output);
-    };
-    let of_output_2 = pass_output(file);
-    let Part::Bytes(o2) = of_output_2 else {
-        return broken(of_output_2);
-    };
-    Record::Whole(Sizes {
-        input: a,
-        proposal: b,
-        log: c,
-        output: o,
-        output_2: o2,
+    buffers: &'a mut Buffers,
+    log: &'a mut [u8],
+) -> Result<Case<'a>, Broken> {
+    let mut head = [0u8; 1];
+    fill(file, &mut head).map_err(|_| Broken::Missing)?;
+    let Buffers {
+        input,
+        proposal,
+        block,
+        output,
+    } = buffers;
+    let input = read_text(file, input)?;
+    let proposal = read_list(file, proposal)?;
+    let log = read_log(file, log)?;
+    fill(file, block)?;
+    let output = read_text(file, output)?;
+    let output_2 = pass_output(file)?;
+    Ok(Case {
+        call: head[0],
+        input,
+        proposal,
+        log,
+        block,
+        output,
+        output_2,
     })
 }
 
-// Whether so many bytes are whole words.
-pub fn are_words(bytes: usize) -> bool {
-    bytes % WORD == 0
-}
-
-// The first bytes of a buffer, or all where there are fewer.
-pub fn front(buffer: &[u8], n: usize) -> &[u8] {
-    if buffer.len() < n {
-        return buffer;
-    }
-    &buffer[..n]
+// Whether bytes are whole words.
+pub fn are_words(bytes: &[u8]) -> bool {
+    bytes.len() % WORD == 0
 }
 
 // The words that bytes are, four bytes to a word, in the front of a buffer; answers how many.
 pub fn gather(from: &[u8], words: &mut [u32]) -> usize
     ensures { IsPrefixLen result words.new }
 {
-    let mut i: usize = 0;
-    while i < from.len() / WORD && i < words.len() {
-        let at = WORD * i;
-        words[i] = joined(from[at], from[at + 1], from[at + 2], from[at + 3]);
-        i += 1;
+    let n = (from.len() / WORD).min(words.len());
+    for (word, bytes) in words.iter_mut().zip(from.chunks_exact(WORD)) {
+        *word = u32::from_be_bytes([bytes[0], bytes[1], bytes[2], bytes[3]]);
     }
-    i
-}
-
-// Bytes as words, one byte to a word, in the front of a buffer; answers how many.
-pub fn spread(from: &[u8], words: &mut [u32]) -> usize
-    ensures { IsPrefixLen result words.new }
-{
-    let mut i: usize = 0;
-    while i < from.len() && i < words.len() {
-        words[i] = u32::from(from[i]);
-        i += 1;
-    }
-    i
+    n
 }
