@@ -9,7 +9,7 @@ ghost use Rattle.cells.specs.Table.{Table, Marked};
 
 use rules::words;
 
-// A matrix has at most 64 rows and 32 columns, so 2,048 cells. Each is a byte, in which 0 says that no message starts there: an Option would take two bytes.
+// A matrix has at most 64 rows and 32 columns, so 2,048 cells. Each is a byte, as document 01 has it, and 0 where no message starts: an Option would take two.
 pub const CELLS: usize = words::MOST_ROWS * words::MOST_COLUMNS;
 
 // Where row i and column c stand in the table, which has the cells row by row.
