@@ -32,12 +32,10 @@ const ZERO: usize = 150;
 fn width_of(time: usize) -> usize
     ensures { result ≤ 330 }
 {
-    if time < 1000 {
-        4 * DIGIT
-    } else if time < 10000 {
-        5 * DIGIT
-    } else {
-        6 * DIGIT
+    match time {
+        0..1000 => 4 * DIGIT,
+        1000..10000 => 5 * DIGIT,
+        _ => 6 * DIGIT,
     }
 }
 

@@ -37,7 +37,7 @@ const AXIS: usize = 200;
 // From one bar to the next, and how high one is.
 pub const STEP: usize = 260;
 
-pub const BAR: usize = 200;
+const BAR: usize = 200;
 
 // How wide a character is, and what is left free beside a label.
 pub const CHARACTER: usize = 65;
@@ -87,12 +87,12 @@ impl Scale {
 
     // How wide the picture is.
     pub fn width(self) -> usize {
-        LEFT + self.area
-            + if self.is_slanted {
-                SLANTED_RIGHT
-            } else {
-                RIGHT
-            }
+        let right = if self.is_slanted {
+            SLANTED_RIGHT
+        } else {
+            RIGHT
+        };
+        LEFT + self.area + right
     }
 
     // Where the bar of row r stands.

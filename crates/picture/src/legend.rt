@@ -134,7 +134,7 @@ impl Legend {
         svg::end_text();
     }
 
-    // The colours of all nodes that send.
+    // The colours of all nodes that send. They are counted here: over a `filter` with `enumerate` it stays open that they are 16 at most (`loop-k-preserved`).
     fn senders(self, picture: &Picture) {
         let mut k: usize = 0;
         for n in 0..words::NODES as usize {

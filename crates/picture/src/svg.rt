@@ -2,7 +2,7 @@
 ghost use Rattle.std.specs.Prelude.{◌*◌, ◌≤◌};
 ghost use Rattle.picture.specs.Drawn.{farthest, lowest, most_characters};
 
-use super::layout::{BAR, CHARACTER, STEP};
+use super::layout::{CHARACTER, STEP};
 
 // With less for a character nobody could read a label.
 const LEAST: usize = 32;
@@ -65,7 +65,7 @@ fn attribute(name: &[u8], n: usize) {
     paper::text(b"\"");
 }
 
-// Where something stands, and how large it is. Nothing lies below the legend, which ends far above this bound.
+// Where something stands, and how large it is. The legend is below the lowest bar, and ends far above these bounds.
 #[derive(Clone, Copy)]
 pub struct Place {
     pub x: usize,

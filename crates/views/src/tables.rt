@@ -36,7 +36,7 @@ pub fn header(p: &[u32], version: u32)
     item(b"messages", words::messages_of(p));
 }
 
-// The nodes of a receiver mask.
+// The nodes of a receiver mask. `names::nodes` writes them too, by the names of a sheet, and there is none here.
 fn receivers(mask: u32) {
     for n in 0..words::NODES {
         if basics::has_bit(mask, n) {
