@@ -2,7 +2,6 @@
 // A wrong one is said by its name and value, and what it must be.
 ghost use Rattle.std.specs.Prelude.{◌<◌, ◌≤◌};
 
-
 // No identifier is larger, and no frame has more data bytes.
 pub const MOST_IDENTIFIER: u32 = 2047;
 
@@ -10,32 +9,35 @@ pub const MOST_DATA: u32 = 8;
 
 // The word at a place.
 pub fn word(words: &[u32], at: usize) -> u32 {
-    if words.len() <= at {
-        return 0;
+    words.get(at).copied().unwrap_or(0)
+}
+
+// Words in records of so many each.
+#[derive(Clone, Copy)]
+pub struct Records<'a> {
+    pub words: &'a [u32],
+    pub size: usize,
+    ghost small: { size ≤ 7 },
+}
+
+impl<'a> Records<'a> {
+    // Word i of record j.
+    pub fn field(&self, j: u32, i: usize) -> u32
+        requires { i < 7 }
+    {
+        word(self.words, self.size * j as usize + i)
     }
-    words[at]
-}
 
-// Word i of record j, where each has so many words.
-pub fn field(words: &[u32], size: usize, j: u32, i: usize) -> u32
-    requires { (size ≤ 7) × (i < 7) }
-{
-    word(words, size * j as usize + i)
-}
-
-// The first record that begins with the same word as record j, which is its identifier.
-pub fn first_like(words: &[u32], size: usize, j: u32) -> u32
-    requires { size ≤ 7 }
-{
-    let identifier = field(words, size, j, 0);
-    let mut i: u32 = 0;
-    while i < j {
-        if field(words, size, i, 0) == identifier {
-            return i;
+    // The first record that begins with the same word as record j, which is its identifier.
+    pub fn first_like(&self, j: u32) -> u32 {
+        let identifier = self.field(j, 0);
+        for i in 0..j {
+            if self.field(i, 0) == identifier {
+                return i;
+            }
         }
-        i += 1;
+        j
     }
-    j
 }
 
 // ---- sentences
@@ -75,6 +77,7 @@ pub fn below(name: &[u8], n: u32, period: u32) {
     paper::say(b", the period");
 }
 
+// A deadline that must be in the period.
 pub fn deadline(n: u32, period: u32) {
     range(b"deadline", n, 1, period);
     paper::say(b", the period");

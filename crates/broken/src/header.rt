@@ -1,7 +1,8 @@
 // What is wrong with a header, or with the length that it gives a file or a problem's words.
-use super::fields::{identifier, range, value, word};
+ghost use Rattle.std.specs.Prelude.{◌<◌, ◌≤◌, length};
+ghost use Rattle.problem.specs.File.{head_bytes};
 
-use problem::HEAD_BYTES;
+use super::fields::{identifier, range, value, word};
 use problem::layout::{bytes_for, is_version, version_of};
 use rules::words;
 use wordlist::lines;
@@ -9,22 +10,26 @@ use wordlist::lines::Shape;
 
 // ---- lengths
 
+// So many bytes, which are too few for a header.
+pub fn short_file(file: &[u8]) {
+    paper::say_things(b": ", file.len(), b" byte");
+    paper::say(b"; a problem file has at least 16");
+}
+
 // So many columns and messages.
 fn contents(columns: usize, messages: usize) {
     paper::say_things(b"; ", columns, b" column");
     paper::say_things(b" and ", messages, b" message");
 }
 
-// The length of a file: too short for a header, or another than its header says.
-pub fn file_length(file: &[u8]) {
-    paper::say_things(b": ", file.len(), b" byte");
-    if file.len() < HEAD_BYTES {
-        paper::say(b"; a problem file has at least 16");
-        return;
-    }
+// The length of a file: another than its header says.
+pub fn file_length(file: &[u8])
+    requires { head_bytes ≤ length file.now }
+{
     let columns = reader::columns_in(file);
     let messages = reader::messages_in(file);
     let layout = reader::layout_in(file);
+    paper::say_things(b": ", file.len(), b" byte");
     contents(columns, messages);
     paper::say_count(b" make a file of version ", version_of(layout));
     paper::say_count(b" of ", bytes_for(layout, columns, messages));
@@ -32,8 +37,7 @@ pub fn file_length(file: &[u8]) {
 
 // The line that has a wrong count of words, if there is one record a line.
 pub fn wrong_line(text: &[u8], shape: Shape) {
-    let wrong = lines::wrong_line(text, shape);
-    if 0 < wrong.line {
+    if let Some(wrong) = lines::wrong_line(text, shape) {
         paper::say_count(b"; line ", wrong.line);
         paper::say_things(b" has ", wrong.count, b" word");
         paper::say_count(b" where ", wrong.due);
@@ -44,9 +48,10 @@ pub fn wrong_line(text: &[u8], shape: Shape) {
 // How many words a column has where there is one a line, as the first says.
 fn column_words(text: &[u8]) -> usize {
     if lines::words_from(text, words::HEADER_WORDS) == words::COLUMN_WORDS {
-        return words::COLUMN_WORDS;
+        words::COLUMN_WORDS
+    } else {
+        2
     }
-    2
 }
 
 // The line of a problem's text that has a wrong count of words, if there is one record a line.
@@ -68,7 +73,7 @@ pub fn wrong_record(words: &[u32], text: &[u8]) {
 // A header whose line has a word or two too many or too few: the numbers behind them are not what they seem.
 fn wrong_header(text: &[u8]) {
     let count = lines::words_from(text, 0);
-    if (4 < count) & (count < 10) & (count != words::HEADER_WORDS) {
+    if (5..10).contains(&count) && count != words::HEADER_WORDS {
         paper::say_count(b"; line ", lines::line_at(text, 0));
         paper::say_count(b" has ", count);
         paper::say(b" words where the 7 of the header are due");
@@ -82,8 +87,8 @@ pub fn words_length(words: &[u32], text: &[u8]) {
         paper::say(b"; a problem has at least the 7 of its header");
         return;
     }
-    let columns = word(words, words::COLUMNS) as usize;
-    let messages = word(words, words::MESSAGES) as usize;
+    let columns = words[words::COLUMNS] as usize;
+    let messages = words[words::MESSAGES] as usize;
     let least = words::HEADER_WORDS + 2 * columns + words::MESSAGE_WORDS * messages;
     contents(columns, messages);
     paper::say_count(b" make ", least);
@@ -95,10 +100,9 @@ pub fn words_length(words: &[u32], text: &[u8]) {
 // ---- mark and version
 
 // The mark of a file.
-pub fn mark(file: &[u8]) {
-    if file.len() < HEAD_BYTES {
-        return;
-    }
+pub fn mark(file: &[u8])
+    requires { head_bytes ≤ length file.now }
+{
     paper::say_count(b": the bytes ", u32::from(file[0]));
     paper::say_count(b" ", u32::from(file[1]));
     paper::say_count(b" ", u32::from(file[2]));
@@ -108,10 +112,9 @@ pub fn mark(file: &[u8]) {
 }
 
 // The version of a file: there is no such, or it is the one that the file was to be moved to.
-pub fn version(file: &[u8]) {
-    if file.len() < HEAD_BYTES {
-        return;
-    }
+pub fn version(file: &[u8])
+    requires { head_bytes ≤ length file.now }
+{
     let version = reader::two_bytes(file, problem::VERSION_AT);
     if is_version(version) {
         paper::say_count(b": the file is already of version ", version);
@@ -124,17 +127,6 @@ pub fn version(file: &[u8]) {
 
 // ---- numbers
 
-// The limit, the columns or the messages.
-fn count_rule(words: &[u32], at: usize) {
-    if at == problem::LIMIT_AT {
-        range(b"limit of triggers", word(words, words::LIMIT), 1, 32);
-    } else if at == problem::COLUMNS_AT {
-        range(b"columns", word(words, words::COLUMNS), 1, 32);
-    } else {
-        range(b"messages", word(words, words::MESSAGES), 0, 64);
-    }
-}
-
 // The reference window, or a basic cycle that has no room for one and a column.
 fn reference_window(n: u32, cycle: u32) {
     if cycle <= 65 {
@@ -146,63 +138,55 @@ fn reference_window(n: u32, cycle: u32) {
     paper::say(b", the basic cycle");
 }
 
-// The number that a file's header has at a byte, as a problem's words have it, and its rule.
-fn rule(words: &[u32], at: usize) {
+// Word k of a header, and its rule.
+fn rule(words: &[u32], k: usize) {
+    let n = word(words, k);
     paper::say(b": ");
-    let cycle = word(words, words::CYCLE);
-    if at == problem::ROWS_AT {
-        value(b"rows", word(words, words::ROWS));
-        paper::say(b"1, 2, 4, 8, 16, 32 or 64");
-    } else if at == problem::CYCLE_AT {
-        range(b"basic cycle", cycle, 1, 65535);
-    } else if at == problem::REF_LEN_AT {
-        reference_window(word(words, words::REF_LEN), cycle);
-    } else if at == problem::REF_ID_AT {
-        identifier(b"reference identifier ", word(words, words::REF_ID));
-    } else {
-        count_rule(words, at);
+    match k {
+        words::ROWS => {
+            value(b"rows", n);
+            paper::say(b"1, 2, 4, 8, 16, 32 or 64");
+        }
+        words::CYCLE => range(b"basic cycle", n, 1, 65535),
+        words::REF_LEN => reference_window(n, word(words, words::CYCLE)),
+        words::REF_ID => identifier(b"reference identifier ", n),
+        words::LIMIT => range(b"limit of triggers", n, 1, 32),
+        words::COLUMNS => range(b"columns", n, 1, 32),
+        _ => range(b"messages", n, 0, 64),
     }
 }
 
 // Which word of a header has the number that a file has at a byte.
 fn word_of(at: usize) -> usize {
-    if at == problem::ROWS_AT {
-        words::ROWS
-    } else if at == problem::CYCLE_AT {
-        words::CYCLE
-    } else if at == problem::REF_LEN_AT {
-        words::REF_LEN
-    } else if at == problem::REF_ID_AT {
-        words::REF_ID
-    } else if at == problem::LIMIT_AT {
-        words::LIMIT
-    } else if at == problem::COLUMNS_AT {
-        words::COLUMNS
-    } else {
-        words::MESSAGES
-    }
+    origin::HEADER_BYTES
+        .iter()
+        .position(|byte| *byte == at)
+        .unwrap_or(words::MESSAGES)
 }
 
-// The first wrong number of the header of a problem's words, which a text has.
+// The first wrong number of the header of a problem's words, which a text has. It is told by the byte of a file that would have it.
 pub fn word_number(words: &[u32], text: &[u8], at: u32) {
-    origin::line(text, word_of(at as usize));
-    rule(words, at as usize);
+    let k = word_of(at as usize);
+    origin::line(text, k);
+    rule(words, k);
     wrong_header(text);
 }
 
 // The first wrong number of a file's header, by its byte. Words have none for the last byte.
-pub fn file_number(file: &[u8], at: u32) {
-    if file.len() < HEAD_BYTES {
-        return;
-    }
+pub fn file_number(file: &[u8], at: u32)
+    requires { head_bytes ≤ length file.now }
+{
     paper::say_count(b", byte ", at);
     if at as usize == problem::LAST_AT {
         paper::say(b": ");
-        value(b"the last byte of the header", u32::from(file[problem::LAST_AT]));
+        value(
+            b"the last byte of the header",
+            u32::from(file[problem::LAST_AT]),
+        );
         paper::say(b"0");
         return;
     }
     let mut head = [0u32; words::HEADER_WORDS];
     reader::read_header(file, &mut head);
-    rule(&head, at as usize);
+    rule(&head, word_of(at as usize));
 }

@@ -1,15 +1,20 @@
 // What is wrong with a problem, behind its name: where that stands in what a person wrote, what is there, and what would be right.
 #![tactic(auto)]
 
+ghost use Rattle.std.specs.Prelude.{◌≤◌, length};
+ghost use Rattle.problem.specs.File.{head_bytes};
+
 pub mod fields;
 mod header;
 mod records;
 
 pub use header::wrong_line;
-use rules::Refusal;
+use paper::Number;
+use problem::HEAD_BYTES;
+use rules::{Paper, Refusal};
 
 // A message or an event, by its place and its identifier.
-pub fn name(thing: &[u8], j: usize, identifier: usize) {
+pub fn name(thing: &[u8], j: impl Number, identifier: usize) {
     paper::say_count(thing, j);
     paper::say_hex(b" (", identifier);
     paper::say(b")");
@@ -23,15 +28,14 @@ pub fn explain(q: Refusal) {
             b": version 1 has no room for the kind of column, else for the identifier of message ",
             i,
         ),
-        _ => {
-            let told = rules::paper_of(q);
-            paper::say_count(b": place ", told.place);
-        }
+        _ => paper::say_count(b": place ", Paper::from(q).place),
     }
 }
 
-// What is wrong with a problem file.
-pub fn of_file(q: Refusal, file: &[u8]) {
+// What is wrong with a file that is long enough for a header.
+fn of_headed(q: Refusal, file: &[u8])
+    requires { head_bytes ≤ length file.now }
+{
     match q {
         Refusal::Length => header::file_length(file),
         Refusal::Mark => header::mark(file),
@@ -40,6 +44,15 @@ pub fn of_file(q: Refusal, file: &[u8]) {
         Refusal::Column(_) | Refusal::Identity(_) | Refusal::Timing(_) | Refusal::Triggers(_) =>
             records::of_file(q, file),
         _ => explain(q),
+    }
+}
+
+// What is wrong with a problem file. One that is too short for a header is refused for that alone.
+pub fn of_file(q: Refusal, file: &[u8]) {
+    if file.len() < HEAD_BYTES {
+        header::short_file(file);
+    } else {
+        of_headed(q, file);
     }
 }
 

@@ -1,7 +1,7 @@
 -- A log is clean exactly where it is what is due, so exactly where it is what the other call writes; a log that ends early differs at its end.
-use Rattle.std.proofs.Common.{ℕ, ◌+◌, ◌*◌, ◌/◌, ◌%◌, ◌<◌, ◌≡◌, refl, sym, ap, subst, ◌∙◌, ◌||◌, not, eqb, List, length, take, Ok, None, Some, arith}
-use borrow.Author.Tests.{eq-eqb, eqb-true, not-false}
-use lib.Seq.{take_at, take_all, take-take, take-length, length-take-le}
+use Rattle.std.proofs.Common.{ℕ, ◌+◌, ◌*◌, ◌/◌, ◌%◌, ◌<◌, ◌≡◌, refl, sym, ap, subst, ◌∙◌, ◌||◌, not, eqb, List, length, take, Ok, None, Some, arith, eq-eqb, eqb-true, take_at, take_all, take-take, length-take-le}
+use borrow.Author.Tests.{not-false}
+use lib.Seq.{take-length}
 use Rattle.basics.proofs.Tests.{or-false}
 use Rattle.rules.specs.declared.Refusal.TheVariants.{Log}
 use Rattle.rules.specs.Refusal.{guard}

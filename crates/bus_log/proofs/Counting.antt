@@ -1,11 +1,6 @@
 -- How often each source is due: its turns in the list are 0, 1, 2 and so on, each once.
-use Prim.Native.Nat.{ℕ, suc, ◌+◌, ◌*◌, ◌/◌, ◌≤◌, ◌<◌}
-use mathlib.Core.Path.{◌≡◌, refl, ap}
+use Rattle.std.proofs.Common.{ℕ, suc, ◌+◌, ◌*◌, ◌/◌, ◌≤◌, ◌<◌, ◌≡◌, refl, ap, List, [], ◌∷◌, lt_of_mul-lt-mul_right, mul-le-mul_right, arith, length}
 use mathlib.Core.List.Memᴰ
-use mathlib.Core.List.{List, [], ◌∷◌}
-use native.Mathlib.Nat.{lt_of_mul-lt-mul_right, mul-le-mul_right}
-use native.Mathlib.Omega.{arith}
-use lib.ListN.{length}
 use Rattle.basics.specs.Rising.{InOrder}
 use Rattle.basics.specs.Runs.{run}
 use Rattle.basics.proofs.Rising.{in-order-one, climbs-one, climbs-run, Climbs}

@@ -1,9 +1,5 @@
 -- The sends of a matrix cycle, counted message by message.
-use Prim.Native.Nat.{ℕ, ◌+◌, ◌*◌, ◌/◌, ◌≤◌}
-use mathlib.Core.Path.{◌≡◌, ap₂}
-use mathlib.Core.List.{List}
-use native.Mathlib.Nat.{div-le_self}
-use native.Mathlib.Omega.{arith}
+use Rattle.std.proofs.Common.{ℕ, ◌+◌, ◌*◌, ◌/◌, ◌≤◌, ◌≡◌, ap₂, List, div-le_self, arith}
 use Rattle.basics.specs.Sums.{sum}
 use Rattle.basics.proofs.Sums.{sum-next, sum-most}
 use Rattle.rules.specs.Problem.{most_rows, most_messages, rows, messages, repeat, WellFormed}

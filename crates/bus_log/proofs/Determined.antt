@@ -1,8 +1,5 @@
 -- What is due is determined: one list, and so one row of words.
-use Prim.Native.Nat.{ℕ}
-use mathlib.Core.Path.{◌≡◌, sym, ap, ◌∙◌}
-use mathlib.Core.List.{List}
-use native.Mathlib.Omega.{arith}
+use Rattle.std.proofs.Common.{ℕ, ◌≡◌, sym, ap, ◌∙◌, List, arith}
 use Rattle.basics.proofs.Rising.{in-order-one}
 use Rattle.bus_log.specs.Span.{Occurrence, DueList, pairs, IsDue}
 

@@ -1,12 +1,8 @@
 -- Where a log differs first from the words that are due, or that it does not.
-use Prim.Native.Nat.{ℕ, zero, suc, ◌+◌, ◌*◌, ◌/◌, ◌%◌, ◌<◌, ◌≤◌}
-use mathlib.Core.Path.{◌≡◌, sym, ap, ap₂, subst, ◌∙◌}
-use mathlib.Core.List.{List, [], ◌∷◌, ◌++◌}
+use Rattle.std.proofs.Common.{ℕ, zero, suc, ◌+◌, ◌*◌, ◌/◌, ◌%◌, ◌<◌, ◌≤◌, ◌≡◌, sym, ap, ap₂, subst, ◌∙◌, List, [], ◌∷◌, ◌++◌, add-one, arith, length, get_or, take, drop, length-append, take-append-drop, drop_of_length-le, drop-cons, take_all, length-take-le, get_or-take, ext_get_or}
 use native.Mathlib.Decide.{dec_lt}
-use native.Mathlib.Numerals.{add-one}
-use native.Mathlib.Omega.{arith}
-use lib.ListN.{length, get_or, take, drop, length-append, take-append-drop, drop_of_length-le, get_or-append}
-use lib.Seq.{drop-cons, take_all, take-append-le, length-take-le, get_or-take, ext_get_or}
+use lib.ListN.{get_or-append}
+use lib.Seq.{take-append-le}
 use Rattle.bus_log.specs.declared.Difference.{Difference}
 use Rattle.bus_log.specs.Against.{pair_at, nothing, Differing}
 use Rattle.bus_log.specs.Parts.{Agreed, Agreeing}

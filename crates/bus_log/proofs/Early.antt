@@ -1,10 +1,6 @@
 -- The times that are due are small: each is below the end of the span.
-use Prim.Native.Nat.{ℕ, zero, suc, ◌*◌, ◌≤◌, ◌<◌}
-use mathlib.Core.List.{List, [], ◌∷◌, Memᴰ}
-use mathlib.Core.Path.{◌≡◌, refl}
-use native.Mathlib.Nat.{mul-le-mul}
-use native.Mathlib.Omega.{arith}
-use lib.ListN.{length, get_or}
+use Rattle.std.proofs.Common.{ℕ, zero, suc, ◌*◌, ◌≤◌, ◌<◌, List, [], ◌∷◌, ◌≡◌, refl, mul-le-mul, arith, length, get_or}
+use mathlib.Core.List.{Memᴰ}
 use Rattle.rules.specs.Problem.{rows, cycle, matrix, WellFormed}
 use Rattle.bus_log.specs.Span.{Occurrence, start_of, pairs, IsDue, most_span}
 use Rattle.bus_log.specs.Rows.{matrix_most}

@@ -1,7 +1,6 @@
 -- A log held against rows that are due, one by one.
-use Rattle.std.proofs.Common.{ℕ, ◌+◌, ◌*◌, ◌-◌, ◌/◌, ◌%◌, ◌<◌, ◌≤◌, ◌≡◌, sym, ap, ◌∙◌, List, length, get_or, take, drop, length-append, length-drop, Err, arith}
+use Rattle.std.proofs.Common.{ℕ, ◌+◌, ◌*◌, ◌-◌, ◌/◌, ◌%◌, ◌<◌, ◌≤◌, ◌≡◌, sym, ap, ◌∙◌, List, length, get_or, take, drop, length-append, length-drop, Err, arith, get_or-drop, take_at}
 use lib.ListN.{get_or-append}
-use lib.Seq.{get_or-drop, take_at}
 use Rattle.basics.specs.Runs.{run, Put}
 use Rattle.basics.proofs.Runs.{run-next, run_inside, run_at, tail-part}
 use Rattle.bus_log.specs.declared.Difference.{Difference}

@@ -1,7 +1,6 @@
 -- Two answers to a log that the promise allows are equal.
-use Rattle.std.proofs.Common.{ℕ, ◌+◌, ◌*◌, ◌<◌, ◌≤◌, ◌≡◌, refl, sym, ap, ap₂, subst, ◌∙◌, List, ◌++◌, length, get_or, take, Ok, Err, Some, arith}
+use Rattle.std.proofs.Common.{ℕ, ◌+◌, ◌*◌, ◌<◌, ◌≤◌, ◌≡◌, refl, sym, ap, ap₂, subst, ◌∙◌, List, ◌++◌, length, get_or, take, Ok, Err, Some, arith, take-take, take-add}
 use mathlib.Core.List.{append_cancel_left}
-use lib.Seq.{take-take, take-add}
 use Rattle.rules.specs.declared.Refusal.{Refusal}
 use Rattle.rules.specs.Paper.{refused, paper}
 use Rattle.rules.specs.Refusal.{Fault}

@@ -1,11 +1,8 @@
 -- Every matrix cycle is the one before, a matrix cycle later.
-use Prim.Native.Nat.{ℕ, zero, suc, ◌+◌, ◌*◌, ◌%◌, ◌<◌}
-use mathlib.Core.Path.{◌≡◌, refl, sym, ap, ◌∙◌}
-use mathlib.Core.List.{List, [], ◌∷◌, ◌++◌}
-use native.Mathlib.Nat.{add_comm, add-mod_right}
-use native.Mathlib.Omega.{arith}
-use lib.ListN.{length, get_or, drop, length-append, get_or-append}
-use lib.Seq.{get_or-drop, drop-append_seam}
+use Rattle.std.proofs.Common.{ℕ, zero, suc, ◌+◌, ◌*◌, ◌%◌, ◌<◌, ◌≡◌, refl, sym, ap, ◌∙◌, List, [], ◌∷◌, ◌++◌, add_comm, arith, length, get_or, drop, length-append, get_or-drop}
+use native.Mathlib.Nat.{add-mod_right}
+use lib.ListN.{get_or-append}
+use lib.Seq.{drop-append_seam}
 use Rattle.basics.specs.Runs.{run}
 use Rattle.basics.proofs.Runs.{run-split}
 use Rattle.rules.specs.Problem.{rows, cycle, matrix, ref_id, columns, start}

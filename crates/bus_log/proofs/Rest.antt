@@ -1,9 +1,7 @@
 -- A log behind its first matrix cycle: each pair must be the one of the matrix cycle before, a matrix cycle later.
-use Rattle.std.proofs.Common.{ℕ, suc, ◌+◌, ◌*◌, ◌-◌, ◌/◌, ◌%◌, ◌<◌, ◌≤◌, min, ◌≡◌, refl, sym, ap, subst, ◌∙◌, List, ◌++◌, length, get_or, take, drop, length-append, length-drop, Result, Ok, Err, IsErrAnd, arith}
+use Rattle.std.proofs.Common.{ℕ, suc, ◌+◌, ◌*◌, ◌-◌, ◌/◌, ◌%◌, ◌<◌, ◌≤◌, min, ◌≡◌, refl, sym, ap, subst, ◌∙◌, List, ◌++◌, length, get_or, take, drop, length-append, length-drop, Result, Ok, Err, IsErrAnd, arith, mul-le-mul, get_or-take, get_or-drop, length-take-le}
 use Rattle.std.specs.Result.{result_err}
-use native.Mathlib.Nat.{mul-le-mul}
 use lib.ListN.{get_or-append}
-use lib.Seq.{get_or-take, get_or-drop, length-take-le}
 use Rattle.basics.specs.Runs.{run}
 use Rattle.basics.proofs.Runs.{run-split}
 use Rattle.rules.specs.Problem.{most_rows, rows, cycle, matrix, messages}

@@ -1,7 +1,5 @@
 -- Writing what is due of an accepted proposal keeps its promise, two results that the promise allows are equal, and how many words they have.
-use Rattle.std.proofs.Common.{ℕ, ◌*◌, ◌≤◌, ◌<◌, ◌≡◌, refl, sym, subst, ◌∙◌, false, List, ◌++◌, length, drop, Ok, Err, arith}
-use native.Mathlib.Nat.{mul-le-mul}
-use borrow.Author.Tests.{ltb-false}
+use Rattle.std.proofs.Common.{ℕ, ◌*◌, ◌≤◌, ◌<◌, ◌≡◌, refl, sym, subst, ◌∙◌, false, List, ◌++◌, length, drop, Ok, Err, arith, mul-le-mul, ltb-false}
 use Rattle.basics.specs.Runs.{run, Put}
 use Rattle.basics.proofs.Tests.{within}
 use Rattle.rules.specs.declared.Refusal.TheVariants.{Room, Log}

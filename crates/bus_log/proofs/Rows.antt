@@ -1,6 +1,5 @@
 -- The words of a cell and of a row, as they are written.
-use Rattle.std.proofs.Common.{ℕ, zero, suc, ◌+◌, ◌*◌, ◌-◌, ◌%◌, ◌<◌, ◌≤◌, ◌≡◌, refl, ◌∙◌, List, ◌∷◌, ◌++◌, length, get_or, take, drop, length-append, arith}
-use native.Mathlib.Nat.{mul-le-mul}
+use Rattle.std.proofs.Common.{ℕ, zero, suc, ◌+◌, ◌*◌, ◌-◌, ◌%◌, ◌<◌, ◌≤◌, ◌≡◌, refl, ◌∙◌, List, ◌∷◌, ◌++◌, length, get_or, take, drop, length-append, arith, mul-le-mul}
 use borrow.Rule.Slice.PartMut.{put_mid}
 use Rattle.basics.specs.Runs.{run, Put}
 use Rattle.basics.proofs.Runs.{run-next}

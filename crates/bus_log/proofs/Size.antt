@@ -1,12 +1,7 @@
 -- How many words are due: two for each reference message and each send, and so many as those are due in the span.
-use Prim.Native.Nat.{ℕ, ◌+◌, ◌*◌, ◌/◌, ◌<◌}
-use mathlib.Core.Path.{◌≡◌, refl, ap, ◌∙◌}
-use mathlib.Core.Bool.{Bool, true, false}
-use mathlib.Core.List.{List, [], ◌∷◌, ◌++◌, Memᴰ}
+use Rattle.std.proofs.Common.{ℕ, ◌+◌, ◌*◌, ◌/◌, ◌<◌, ◌≡◌, refl, ap, ◌∙◌, Bool, true, false, List, [], ◌∷◌, ◌++◌, arith, lt-ltb, length}
+use mathlib.Core.List.{Memᴰ}
 use native.Mathlib.Nat.{div-eq_of_eq-mul_left}
-use native.Mathlib.Omega.{arith}
-use borrow.Author.Tests.{lt-ltb}
-use lib.ListN.{length}
 use Rattle.basics.specs.Sums.{sum, only}
 use Rattle.basics.proofs.Sums.{sum_same, sum-add, sum-zero, sum-times, sum-equal}
 use Rattle.rules.specs.Problem.{rows, messages, repeat}

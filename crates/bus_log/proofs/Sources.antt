@@ -1,14 +1,7 @@
 -- The turns of one source among occurrences, in their order.
-use Prim.Native.Nat.{ℕ, ◌<◌}
-use mathlib.Core.Path.{◌≡◌, refl, sym, ap, ap₂, subst}
-use mathlib.Core.Bool.{Bool, true, false}
+use Rattle.std.proofs.Common.{ℕ, ◌<◌, ◌≡◌, refl, sym, ap, ap₂, subst, Bool, true, false, List, [], ◌∷◌, ◌++◌, ⊎_elim, lt_of_mul-lt-mul_right, arith, eq-eqb, eqb-true, eqb}
 use mathlib.Core.List.Memᴰ
-use mathlib.Core.List.{List, [], ◌∷◌, ◌++◌, Memᴰ}
-use mathlib.Core.Logic.{⊎_elim}
-use native.Mathlib.Nat.{lt_of_mul-lt-mul_right}
-use native.Mathlib.Omega.{arith}
-use borrow.Author.Tests.{eq-eqb, eqb-true}
-use lib.Dec.{eqb}
+use mathlib.Core.List.{Memᴰ}
 use Rattle.basics.specs.Rising.{Rising, none, next}
 use Rattle.basics.proofs.Rising.{head-before, tail-rises}
 use Rattle.basics.proofs.Tests.{not-both}

@@ -1,6 +1,5 @@
 -- The filled table of cells has numbers of messages only.
-use mathlib.Core.List.{List}
-use Prim.Native.Nat.{ℕ}
+use Rattle.std.proofs.Common.{List, ℕ}
 use Rattle.rules.specs.Problem.{messages}
 use Rattle.proposal.specs.Accepted.{Accepted}
 use Rattle.cells.specs.Table.{Table}

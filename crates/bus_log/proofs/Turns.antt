@@ -1,9 +1,6 @@
 -- Which turn of a message falls on a row, the rows counted from time 0 on through all matrix cycles.
-use Prim.Native.Nat.{ℕ, ◌+◌, ◌*◌, ◌-◌, ◌/◌, ◌%◌, ◌^◌, ◌≤◌, ◌<◌}
-use mathlib.Core.Path.{◌≡◌, refl, ap}
-use mathlib.Core.List.{List}
-use native.Mathlib.Nat.{mod-add-div', lt_of_mul-lt-mul_right, min-eq_left, div-eq_of_eq-mul_left}
-use native.Mathlib.Omega.{arith}
+use Rattle.std.proofs.Common.{ℕ, ◌+◌, ◌*◌, ◌-◌, ◌/◌, ◌%◌, ◌^◌, ◌≤◌, ◌<◌, ◌≡◌, refl, ap, List, lt_of_mul-lt-mul_right, arith}
+use native.Mathlib.Nat.{mod-add-div', min-eq_left, div-eq_of_eq-mul_left}
 use Rattle.rules.specs.Cells.{Here}
 use Rattle.rules.specs.Problem.{rows, messages, repeat, column, row}
 use Rattle.rules.specs.Parts.{Member}

@@ -1,11 +1,7 @@
 -- Row by row through the table of cells: the words are those of the sends that are due.
-use Prim.Native.Nat.{ℕ, zero, suc, ◌+◌, ◌*◌, ◌%◌, ◌<◌}
-use mathlib.Core.Path.{◌≡◌, refl, sym, ap, ap₂, ◌∙◌}
+use Rattle.std.proofs.Common.{ℕ, zero, suc, ◌+◌, ◌*◌, ◌%◌, ◌<◌, ◌≡◌, refl, sym, ap, ap₂, ◌∙◌, List, [], ◌∷◌, ◌++◌, ⊎_elim, mod-lt, lt_of_mul-lt-mul_right, arith}
 use mathlib.Core.List.Memᴰ
-use mathlib.Core.List.{List, [], ◌∷◌, ◌++◌, Memᴰ}
-use mathlib.Core.Logic.{⊎_elim}
-use native.Mathlib.Nat.{mod-lt, lt_of_mul-lt-mul_right}
-use native.Mathlib.Omega.{arith}
+use mathlib.Core.List.{Memᴰ}
 use Rattle.basics.specs.Runs.{run}
 use Rattle.basics.proofs.Rising.{Climbs, climbs-none, climbs-one, climbs-wide, climbs-append, Steps, climbs-run}
 use Rattle.basics.proofs.Runs.{run-same, in-run, of-run}

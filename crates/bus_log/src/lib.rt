@@ -5,6 +5,7 @@ ghost use Rattle.std.specs.Prelude.{◌≡◌, ◌∷◌, ◌*◌, ◌%◌, ◌<
 ghost use Rattle.basics.specs.Runs.{run, Put};
 ghost use Rattle.rules.specs.Problem.{WellFormed, rows as row_count, messages as messageCount};
 ghost use Rattle.proposal.specs.Accepted.{Accepted};
+ghost use Rattle.cells.specs.Table.{Table};
 ghost use Rattle.bus_log.specs.Span.{most_span, cycle_sends};
 ghost use Rattle.bus_log.specs.Rows.{Numbered, cell_words, cells_of, words_of_row, most_rows_due, cycle_most};
 ghost use Rattle.bus_log.specs.Parts.{Agreeing, Begins};
@@ -54,17 +55,26 @@ fn write_cell(p: &[u32], number: usize, time: usize, list: &mut [u32]) -> usize
     PAIR
 }
 
+// The table of cells of an accepted proposal.
+fn table_of(p: &[u32], w: &[u32]) -> [u8; CELLS]
+    requires { Accepted p.now w.now }
+    ensures { Table p.now w.now (messageCount p.now) result }
+{
+    let mut table = [0u8; CELLS];
+    cells::fill(p, w, &mut table);
+    table
+}
+
 // The sends in the cells of row i, counted from time 0 on; answers how many words they are.
 fn write_cells(p: &[u32], table: &[u8; CELLS], i: usize, list: &mut [u32]) -> usize
     requires numbered { Numbered p.now table.now × (i < most_rows_due) }
     requires i_in_bounds { length (cells_of p.now table.now i) ≤ length list.old }
     ensures { Put (cells_of p.now table.now i) list.old list.new result }
 {
-    let columns = words::columns_of(p);
     let row = i % words::rows_of(p);
     let begin = i * words::cycle_of(p);
     let mut at: usize = 0;
-    for c in 0..columns {
+    for c in 0..words::columns_of(p) {
         let number = usize::from(table[cell_of(row, c)]);
         at += write_cell(p, number, begin + words::start_of(p, c), &mut list[at..]);
     }
@@ -100,9 +110,8 @@ fn cycle_sends(p: &[u32]) -> usize
     ensures { (result ≡ cycle_sends p.now) × (result ≤ cycle_most) }
 {
     let rows = words::rows_of(p);
-    let messages = words::messages_of(p);
     let mut sends = rows;
-    for j in 0..messages {
+    for j in 0..words::messages_of(p) {
         sends += rows / words::repeat_of(p, j);
     }
     sends
@@ -114,9 +123,7 @@ fn due_accepted(p: &[u32], w: &[u32], span: usize, list: &mut [u32]) -> Result<u
     ensures { DueAccepted p.now w.now span list.old list.new result }
 {
     refuse_if(list.len() < PAIR * (cycle_sends(p) * span), Refusal::Room)?;
-    let mut table = [0u8; CELLS];
-    cells::fill(p, w, &mut table);
-    Ok(write_rows(p, &table, span * words::rows_of(p), list))
+    Ok(write_rows(p, &table_of(p, w), span * words::rows_of(p), list))
 }
 
 // Writes the list of the sends that start in so many matrix cycles into the caller's buffer, which keeps its words beyond them; answers how many words the list has.
@@ -158,10 +165,9 @@ fn hold_rows(p: &[u32], table: &[u8; CELLS], log: &[u32]) -> Result<usize, Diffe
     requires { Numbered p.now table.now × (length log.now % 2 ≡ 0) }
     ensures { Begins (run (row_count p.now) (words_of_row p.now table.now)) log.now result }
 {
-    let rows = words::rows_of(p);
     let mut row = [0u32; ROW_WORDS];
     let mut at: usize = 0;
-    for i in 0..rows {
+    for i in 0..words::rows_of(p) {
         let n = write_row(p, table, i, &mut row);
         let same = agreeing(&row[..n], 0, &log[at..]);
         if same < n {
@@ -182,9 +188,7 @@ fn hold_accepted(p: &[u32], w: &[u32], log: &[u32], span: usize) -> Result<(), D
     requires { Accepted p.now w.now × (length log.now % 2 ≡ 0) × (1 ≤ span) × (span ≤ most_span) }
     ensures { HoldingAccepted p.now w.now span log.now result }
 {
-    let mut table = [0u8; CELLS];
-    cells::fill(p, w, &mut table);
-    let n = hold_rows(p, &table, log)?;
+    let n = hold_rows(p, &table_of(p, w), log)?;
     let all = n * span;
     let later = words::rows_of(p) * words::cycle_of(p);
     let reach = log.len().min(all);

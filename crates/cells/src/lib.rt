@@ -1,7 +1,7 @@
 // The table of cells: which message starts in each.
 #![tactic(auto)]
 
-ghost use Rattle.std.specs.Prelude.{◌≡◌, ◌<◌, ◌≤◌, length};
+ghost use Rattle.std.specs.Prelude.{◌≡◌, ◌<◌, ◌≤◌};
 ghost use Rattle.rules.specs.Problem.{most_rows, most_columns, messages as messageCount};
 ghost use Rattle.proposal.specs.Accepted.{Accepted};
 ghost use Rattle.cells.specs.Cells.{cells as cellCount, cell};
@@ -22,8 +22,7 @@ pub fn cell_of(i: usize, c: usize) -> usize
 
 // Marks the cells of column c in the rows r, r + step, r + 2 step and so on with a number.
 fn mark(table: &mut [u8; CELLS], c: usize, r: usize, step: usize, rows: usize, number: u8)
-    requires c_lt_most_columns { (c < most_columns) × (1 ≤ step) × (step ≤ most_rows) × (rows ≤ most_rows) × (r < most_rows) }
-    requires table_len { length table.old ≡ cellCount }
+    requires { (c < most_columns) × (1 ≤ step) × (step ≤ most_rows) × (rows ≤ most_rows) × (r < most_rows) }
     ensures { Marked table.old c r step rows number table.new }
 {
     for i in (r..rows).step_by(step) {

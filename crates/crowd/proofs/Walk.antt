@@ -1,12 +1,12 @@
--- The walk over the messages that drops those without which the rest has no plan either: what it knows of the first s that it has left.
-use Prim.Native.Nat.{ℕ, ◌+◌, ◌-◌, ◌<◌, ◌≤◌}
-use mathlib.Core.Path.{◌≡◌, refl, sym, ap, subst}
+-- The walk over the messages that drops those without which the rest has no plan either: what it knows of those that it has asked about.
+use Prim.Native.Nat.{ℕ, ◌+◌, ◌<◌, ◌≤◌}
+use mathlib.Core.Path.{◌≡◌, refl, sym, ap, ◌∙◌}
 use mathlib.Core.Bool.{Bool, true, false}
 use mathlib.Core.List.{List, []}
 use mathlib.Core.Logic.{⊎_elim}
 use native.Mathlib.Omega.{arith}
 use borrow.Author.Count.{below_more}
-use lib.ListN.{get_or}
+use lib.ListN.{length, get_or}
 use Rattle.basics.proofs.Tests.{below_or}
 use Rattle.rules.specs.Problem.{messages, field}
 use Rattle.places.specs.Places.{most_planned, Few}
@@ -26,57 +26,61 @@ pub part-decides : {p m q : List ℕ} {n : ℕ} → Part p m n q → (b : Bool) 
 part-decides Q true P = record { own = _; part = Q; plan = P }
 part-decides Q false P = record { own = _; part = Q; none = P }
 
--- the n messages in m have no plan together, and each of the first s is needed for that: those among them without it have one
-pub record Walked (p m : List ℕ) (n s : ℕ) : Type 0 where
-  pub numbers : Numbers p m n
-  pub most : n ≤ most_planned
-  pub none : Crowded p m n
-  pub needed : (t : ℕ) → t < s → (k : List ℕ) (h : ℕ) → Numbers p k h → Among k h m n → h ≤ n → (Slot k h (get_or m t 0) → ⊥) → Together p k h
+-- the messages in m have no plan together, and each before message j is needed for that: those among them without it have one
+pub record Walked (p m : List ℕ) (j : ℕ) : Type 0 where
+  pub numbers : Numbers p m (length m)
+  pub most : length m ≤ most_planned
+  pub none : Crowded p m (length m)
+  pub needed : (x : ℕ) → x < j → Slot m (length m) x → (k : List ℕ) (h : ℕ) → Numbers p k h → Among k h m (length m) → h ≤ length m → (Slot k h x → ⊥) → Together p k h
 
 module _ {p : List ℕ} (F : Few p) where
   -- all messages are the problem itself
-  all-part : {m : List ℕ} → Counts m most_planned → Part p m (messages p) p
+  all-part : {m : List ℕ} → Counts m (messages p) → Part p m (messages p) p
   all-part {m} C = record {
     long = F.formed.words;
     count = refl;
     front = λ i l u. refl;
-    records = λ s f l g. ap (λ (j : ℕ). field p j f) (sym (C.each s (omega (arith, F.most))));
+    records = λ s f l g. ap (λ (j : ℕ). field p j f) (sym (C.each s l));
   }
 
-  pub walked_none : {m : List ℕ} → Counts m most_planned → Planless p → Walked p m (messages p) 0
-  walked_none C P = record {
-    numbers = record {
-      below = λ s l. omega (arith, C.each s (omega (arith, F.most)));
-      rising = λ s t g l. omega (arith, C.each s (omega (arith, F.most)), C.each t (omega (arith, F.most)));
-    };
-    most = F.most;
-    none = record { own = p; part = all-part C; none = P };
-    needed = λ t l. absurd (omega arith);
-  }
+  pub walked_none : {m : List ℕ} {n : ℕ} → n ≡ messages p → (length m ≡ n) × Counts m n → Planless p → Walked p m 0
+  walked_none {m} e C P =
+      let long : length m ≡ messages p = C.0 ∙ e in
+      let counts : Counts m (messages p) = rw e at C.1 in
+      record {
+        numbers = rw long record {
+          below = λ s l. omega (arith, counts.each s l);
+          rising = λ s t g l. omega (arith, counts.each s (omega arith), counts.each t l);
+        };
+        most = omega (arith, F.most);
+        none = rw long record { own = p; part = all-part counts; none = P };
+        needed = λ x l. absurd (omega arith);
+      }
 
-  module _ {m k : List ℕ} {n s : ℕ} (W : Walked p m n s) (l : s < n) (D : Without m n s k) where
-    left-numbers : Numbers p k (n - 1)
-    left-numbers = without-numbers W.numbers l D
+  module _ {m k : List ℕ} {j : ℕ} (W : Walked p m j) (D : Without m (length m) j k) where
+    left-numbers : Numbers p k (length k)
+    left-numbers = without-numbers W.numbers D
 
     -- without the next message there is a plan
-    pub walked-needed : {b : Bool} → b ≡ true → DecidesTogether p k (n - 1) b → Walked p m n (s + 1)
+    pub walked-needed : {b : Bool} → b ≡ true → DecidesTogether p k (length k) b → Walked p m (j + 1)
     walked-needed e T = record {
       numbers = W.numbers;
       most = W.most;
       none = W.none;
-      needed = below_more _ s W.needed (λ u h U A g not.
-          let B = among-left W.numbers l D A not in
-          together-fewer left-numbers U B F.formed (omega (arith, W.most)) (omega (arith, W.most)) (rw e at T));
+      needed = below_more _ j W.needed (λ at u h U A g not.
+          together-fewer left-numbers U (among-left W.numbers D A not) F.formed (omega (arith, D.few, W.most)) (omega (arith, W.most)) (rw e at T));
     }
 
     -- without it there is none
-    pub walked-dropped : {b : Bool} → b ≡ false → DecidesTogether p k (n - 1) b → Walked p k (n - 1) s
+    pub walked-dropped : {b : Bool} → b ≡ false → DecidesTogether p k (length k) b → Walked p k (j + 1)
     walked-dropped e C = record {
       numbers = left-numbers;
-      most = omega (arith, W.most);
+      most = omega (arith, D.few, W.most);
       none = rw e at C;
-      needed = λ t g u h U A less not. W.needed t g u h U (among-whole W.numbers l D A) (omega arith)
-          (λ S. not (subst (Slot u h) (sym (D.before t g)) S));
+      needed = λ x l at u h U A less not.
+          let there = D.among.each at.slot at.among in
+          let other : x ≡ j → ⊥ = λ f. D.lacks at.slot at.among (at.is ∙ f) in
+          W.needed x (omega arith) record { slot = there.slot; among = there.among; is = there.is ∙ at.is } u h U (among-whole W.numbers D A) (omega (arith, D.few)) not;
     }
 
   -- no message at all has a plan
@@ -90,10 +94,13 @@ module _ {p : List ℕ} (F : Few p) where
       absurd (C.none.none [] (stands-plan formed (omega arith) record { each = λ j g. absurd (omega arith) })))
       (below_or 0 n)
 
-  pub walked_all : {m : List ℕ} {n s : ℕ} → Walked p m n s → n ≤ s → Crowd p m n
-  walked_all {m} {n} W l = record {
+  pub walked_all : {m : List ℕ} {j : ℕ} → messages p ≤ j → Walked p m j → Crowd p m (length m)
+  walked_all {m} l W = record {
     numbers = W.numbers;
     some = some W.numbers W.none W.most;
     none = W.none;
-    fewer = λ k h K A g. let lost = missing K W.numbers g in W.needed lost.at (omega (arith, lost.below)) k h K A (omega arith) lost.lacks;
+    fewer = λ k h K A g.
+        let lost = missing K W.numbers g in
+        let at : Slot m (length m) (get_or m lost.at 0) = record { slot = lost.at; among = lost.below; is = refl } in
+        W.needed _ (omega (arith, W.numbers.below lost.at lost.below)) at k h K A (omega arith) lost.lacks;
   }

@@ -1,5 +1,9 @@
 -- How far a log has been read, which is read in pieces.
-use Rattle.std.specs.Prelude.{ℕ, ◌+◌, ◌≤◌, List, length}
+use Rattle.std.specs.Prelude.{ℕ, ◌+◌, ◌≤◌, ◌≡◌, List, length, take}
+
+-- xs has n items in front (the second part follows from the first, and tells the length of what a caller takes)
+abbrev pub IsFront : {A : Type 0} → ℕ → List A → Type 0
+IsFront n xs = (n ≤ length xs) × (n ≡ length (take n xs))
 
 -- no log has so many bytes
 abbrev pub most_bytes : ℕ

@@ -1,60 +1,55 @@
 // What the program is given: its arguments, and the files and word lists that they name. What cannot be read is said in one sentence on standard error.
-ghost use Rattle.std.specs.Prelude.{◌≡◌, ◌<◌, ◌≤◌, length, take};
+ghost use Rattle.std.specs.Prelude.{◌<◌, ◌≤◌, IfOk, length};
 ghost use Rattle.rules.specs.Problem.{WellFormed, most_words};
-ghost use Rattle.files.specs.Reading.{most_bytes};
-ghost use Rattle.io.specs.Counts.{IsPrefixLen};
+ghost use Rattle.files.specs.Reading.{IsFront, most_bytes};
 
 use origin::Subject;
 use problem::{HEAD_BYTES, Layout};
-use reader::answer::Read as Answer;
-use std::io::{Error, Read};
+use reasons::Call;
+use std::io::{Error, Read, Result as IoResult};
 use std::rt::{Env, Files};
 use wordlist::hints::Hint;
 use wordlist::{hints, lines};
-use writer::Written;
 
 // The most words of a word list.
 pub const LIST_WORDS: usize = 1024;
 
-// What was read: so many bytes or words, in the front of the buffer that was lent. If it is not good, that has been said.
-#[derive(Drop)]
-pub struct Taken {
-    pub is_good: bool,
-    pub count: usize,
+// That there is nothing to go on with: why not has been said on standard error.
+#[derive(Clone, Copy)]
+pub struct Told;
+
+// The words of a word list, and the text that has them.
+#[derive(Clone, Copy)]
+pub struct List<'a> {
+    pub words: &'a [u32],
+    pub text: &'a [u8],
 }
 
-// The same, and so many bytes of the text that a person wrote, in the front of the buffer for it; none for a problem file.
-#[derive(Drop)]
-pub struct Source {
-    pub is_good: bool,
-    pub count: usize,
-    pub text: usize,
+// A problem file, and the text that a person wrote of it; that is empty for a problem file.
+#[derive(Clone, Copy)]
+pub struct Source<'a> {
+    pub file: &'a [u8],
+    pub text: &'a [u8],
 }
 
-// So many words of a buffer, or all of them.
-pub fn within(n: usize, words: &[u32]) -> usize
-    ensures { IsPrefixLen result words.now }
+// So many items of a buffer, or all of them.
+pub fn within<T>(n: usize, items: &[T]) -> usize
+    ensures { IsFront result items.now }
 {
-    if n <= words.len() { n } else { words.len() }
-}
-
-// So many bytes of a buffer, or all of them.
-pub fn within_bytes(n: usize, bytes: &[u8]) -> usize
-    ensures { IsPrefixLen result bytes.now }
-{
-    if n <= bytes.len() { n } else { bytes.len() }
+    n.min(items.len())
 }
 
 // ---- files
 
 // Says on standard error what the system has against a file, by its name.
-pub fn fail(name: &[u8], e: &Error) {
+pub fn fail(name: &[u8], e: &Error) -> Told {
     paper::say(b"ttplan: ");
     if is_dash(name) {
         host::fail(b"standard input", e);
     } else {
         host::fail(name, e);
     }
+    Told
 }
 
 // The name of standard input.
@@ -62,96 +57,99 @@ const DASH: &[u8] = b"-";
 
 // Whether a name is that of standard input.
 pub fn is_dash(name: &[u8]) -> bool {
-    wordlist::is_same(name, DASH)
+    name == DASH
 }
 
 // Whether an argument is this word.
 fn is_at(rt: &impl Env, i: usize, word: &[u8]) -> bool {
     let mut name = io::buffer();
     let n = host::arg(rt, i, &mut name);
-    wordlist::is_same(&name[..n], word)
+    &name[..n] == word
 }
 
 // Whether standard input was read before argument i is: it is read once, and closed to an argument that comes behind. `extend` reads its argument 2 last.
 fn is_spent(rt: &impl Env, i: usize) -> bool {
-    if is_at(rt, 1, b"extend") {
-        return (i != 3) & is_at(rt, 3, DASH) | (i == 2) & is_at(rt, 4, DASH);
+    let order: [usize; 3] = if is_at(rt, 1, b"extend") {
+        [3, 4, 2]
+    } else {
+        [2, 3, 4]
+    };
+    for k in order {
+        if k == i {
+            return false;
+        }
+        if is_at(rt, k, DASH) {
+            return true;
+        }
     }
-    (2 < i) & is_at(rt, 2, DASH) | (3 < i) & is_at(rt, 3, DASH)
+    false
 }
 
 // What the system says of an input that is closed.
 const CLOSED: i32 = 9;
 
-// What there is to read under a name; where there is nothing, that has been said.
+// What there is to read under a name.
 #[derive(Drop)]
 pub enum Opened<F: Drop, I: Drop> {
     File(F),
     Input(I),
-    Nothing,
+}
+
+impl<F: Read + Drop, I: Read + Drop> Read for Opened<F, I> {
+    fn read(&mut self, bytes: &mut [u8]) -> IoResult<usize> {
+        match self {
+            Opened::File(file) => file.read(bytes),
+            Opened::Input(input) => input.read(bytes),
+        }
+    }
 }
 
 // Opens the file of this name, which argument i has, for reading; a dash is standard input.
-pub fn open<R: Env + Files + Input>(rt: &R, i: usize, name: &[u8]) -> Opened<R::File, R::Reader> {
-    if !is_dash(name) {
-        return match host::open_read(rt, name) {
-            Ok(file) => Opened::File(file),
-            Err(e) => {
-                fail(name, &e);
-                Opened::Nothing
-            }
-        };
+pub fn open<R: Env + Files + Input>(
+    rt: &R,
+    i: usize,
+    name: &[u8],
+) -> Result<Opened<R::File, R::Reader>, Told> {
+    if is_dash(name) {
+        if is_spent(rt, i) {
+            return Err(fail(name, &Error::from_raw_os_error(CLOSED)));
+        }
+        return Ok(Opened::Input(rt.reader()));
     }
-    if is_spent(rt, i) {
-        fail(name, &Error::from_raw_os_error(CLOSED));
-        return Opened::Nothing;
-    }
-    Opened::Input(rt.reader())
-}
-
-// What was read of a file that cannot be opened.
-pub fn nothing() -> Taken
-    ensures { result.count ≡ 0 }
-{
-    Taken {
-        is_good: false,
-        count: 0,
+    match host::open_read(rt, name) {
+        Ok(file) => Ok(Opened::File(file)),
+        Err(e) => Err(fail(name, &e)),
     }
 }
 
 // The bytes of an open file. One byte more is asked for, which tells a file that cannot be read, or is too long, from one that ends.
-fn read_open<F: Read>(file: &mut F, name: &[u8], bytes: &mut [u8]) -> Taken
-    ensures { IsPrefixLen result.count bytes.new }
-{
+fn read_open<'a, F: Read>(
+    file: &mut F,
+    name: &[u8],
+    bytes: &'a mut [u8],
+) -> Result<&'a [u8], Told> {
     let n = host::read_full(file, bytes);
     let mut more = [0u8; 1];
-    let is_good = match file.read(&mut more) {
-        Ok(0) => true,
+    match file.read(&mut more) {
+        Ok(0) => Ok(&bytes[..n]),
         Ok(_) => {
             blame(name);
             paper::say(b": the file is longer than 65,536 bytes\n");
-            false
+            Err(Told)
         }
-        Err(e) => {
-            fail(name, &e);
-            false
-        }
-    };
-    Taken {
-        is_good: is_good,
-        count: n,
+        Err(e) => Err(fail(name, &e)),
     }
 }
 
 // The bytes of the file of this name, which argument i has; a dash is standard input.
-fn read<R: Env + Files + Input>(rt: &R, i: usize, name: &[u8], bytes: &mut [u8]) -> Taken
-    ensures { IsPrefixLen result.count bytes.new }
-{
-    match open(rt, i, name) {
-        Opened::File(mut file) => read_open(&mut file, name, bytes),
-        Opened::Input(mut reader) => read_open(&mut reader, name, bytes),
-        Opened::Nothing => nothing(),
-    }
+fn read<'a, R: Env + Files + Input>(
+    rt: &R,
+    i: usize,
+    name: &[u8],
+    bytes: &'a mut [u8],
+) -> Result<&'a [u8], Told> {
+    let mut file = open(rt, i, name)?;
+    read_open(&mut file, name, bytes)
 }
 
 // ---- word lists
@@ -165,10 +163,10 @@ pub enum Use {
 }
 
 // What a dash stands for: for none among placements to keep, and elsewhere it is no word.
-fn dash(to: Use) -> u64 {
+fn dash(to: Use) -> Option<u32> {
     match to {
-        Use::Kept => kept::NONE as u64,
-        _ => wordlist::NO_NUMBER,
+        Use::Kept => Some(kept::NONE as u32),
+        _ => None,
     }
 }
 
@@ -191,68 +189,57 @@ const SHOWN: usize = 32;
 
 // A byte as it is shown: one that a terminal might obey is a question mark.
 fn shown(b: u8) -> u8 {
-    if (b < b' ') | (b == 127) { b'?' } else { b }
+    match b {
+        0..32 | 127 => b'?',
+        _ => b,
+    }
 }
 
 // Shows a word, or the front of a long one.
 fn say_word(word: &[u8]) {
     paper::say(b": ");
-    let mut i: usize = 0;
-    while i < word.len() {
-        if SHOWN <= i {
-            paper::say(b"..");
-            return;
-        }
-        paper::say(&[shown(word[i])]);
-        i += 1;
+    for b in word.iter().take(SHOWN) {
+        paper::say(&[shown(*b)]);
+    }
+    if SHOWN < word.len() {
+        paper::say(b"..");
     }
 }
 
 // What is wrong with a word that is no number.
-fn say_hint(hint: Hint, to: Use) {
+fn sentence(hint: Hint) -> &'static [u8] {
     match hint {
-        Hint::File => paper::say(
-            b": a problem file, where a word list is due; ttplan words makes one of it",
-        ),
-        Hint::Utf16 => paper::say(b": the text is UTF-16; save it as UTF-8 or as plain text"),
-        Hint::NoBreakSpace => paper::say(b": a no-break space; write a plain space"),
-        Hint::Comma => paper::say(
-            b": a comma; only white space parts numbers, and they have no comma in them",
-        ),
-        Hint::Point => paper::say(
+        Hint::File => b": a problem file, where a word list is due; ttplan words makes one of it",
+        Hint::Utf16 => b": the text is UTF-16; save it as UTF-8 or as plain text",
+        Hint::NoBreakSpace => b": a no-break space; write a plain space",
+        Hint::Comma => b": a comma; only white space parts numbers, and they have no comma in them",
+        Hint::Point =>
             b": a decimal point; numbers are whole, and times are network time units (bit times)",
-        ),
-        Hint::Unit => paper::say(
+        Hint::Unit =>
             b": a unit; times are whole network time units (bit times), written without one",
-        ),
-        Hint::Large => paper::say(b": larger than 4,294,967,295, the largest number"),
-        Hint::Dash => paper::say(b": a - is for none, in a kept list (replan) alone"),
-        Hint::Sign => paper::say(b": no number is below 0"),
-        Hint::Prefix => paper::say(b": hexadecimal digits have 0x in front"),
-        Hint::Other => paper::say(b": not a whole number, decimal or with 0x in front hexadecimal"),
+        Hint::Large => b": larger than 4,294,967,295, the largest number",
+        Hint::Dash => b": a - is for none, in a kept list (replan) alone",
+        Hint::Sign => b": no number is below 0",
+        Hint::Prefix => b": hexadecimal digits have 0x in front",
+        Hint::Other => b": not a whole number, decimal or with 0x in front hexadecimal",
     }
-    match to {
-        Use::Kept => paper::say(b"; a - by itself is none"),
-        _ => {}
-    }
-    paper::say(b"\n");
 }
 
-// What is wrong with the word at a place of a text: it is no number, or one too many.
-fn say_wrong(text: &[u8], at: usize, to: Use, is_full: bool)
+// What is wrong with the word at a place of a text, which is no number.
+fn say_wrong(text: &[u8], at: usize, to: Use)
     requires { at < length text.now }
 {
-    if is_full {
-        say_full(to);
-        return;
-    }
-    let end = wordlist::word_end(text, at);
-    let hint = hints::hint_of(text, &text[at..end]);
+    let word = &text[at..wordlist::word_end(text, at)];
+    let hint = hints::hint_of(text, word);
     match hint {
         Hint::File | Hint::Utf16 | Hint::NoBreakSpace => {}
-        _ => say_word(&text[at..end]),
+        _ => say_word(word),
     }
-    say_hint(hint, to);
+    paper::say(sentence(hint));
+    if let Use::Kept = to {
+        paper::say(b"; a - by itself is none");
+    }
+    paper::say(b"\n");
 }
 
 // Says where the word behind a text stands. So many lines are before the text.
@@ -264,197 +251,126 @@ fn say_where(name: &[u8], lines: usize, before: &[u8])
     paper::say_count(b", character ", lines::column_of(before));
 }
 
-// The words of a text that has so many lines before it, in the file of this name.
-pub fn text_words(name: &[u8], lines: usize, text: &[u8], words: &mut [u32], to: Use) -> Taken
+// Puts the words of a text that has so many lines before it, in the file of this name, into the front of a buffer: how many they are.
+pub fn text_words(
+    name: &[u8],
+    lines: usize,
+    text: &[u8],
+    words: &mut [u32],
+    to: Use,
+) -> Result<usize, Told>
     requires { lines ≤ most_bytes }
-    ensures { IsPrefixLen result.count words.new }
+    ensures { IfOk result (λ n. IsFront n words.new) }
 {
-    let got = wordlist::parse_with(text, words, dash(to));
-    let at = got.at;
-    let count = got.count;
-    if at < text.len() {
-        say_where(name, lines, &text[..at]);
-        say_wrong(text, at, to, count == words.len());
-    }
-    Taken {
-        is_good: at == text.len(),
-        count: count,
+    match wordlist::parse_with(text, words, dash(to)) {
+        Ok(n) => Ok(n),
+        Err(stop) => {
+            say_where(name, lines, &text[..stop.at]);
+            if stop.count == words.len() {
+                say_full(to);
+            } else {
+                say_wrong(text, stop.at, to);
+            }
+            Err(Told)
+        }
     }
 }
 
 // The words of the word list that an argument names, and its text.
-pub fn words<R: Env + Files + Input>(
+pub fn words<'a, R: Env + Files + Input>(
     rt: &R,
     i: usize,
-    text: &mut [u8],
-    words: &mut [u32],
+    text: &'a mut [u8],
+    words: &'a mut [u32],
     to: Use,
-) -> Source
-    ensures { IsPrefixLen result.count words.new × IsPrefixLen result.text text.new }
-{
+) -> Result<List<'a>, Told> {
     let mut name = io::buffer();
     let k = host::arg(rt, i, &mut name);
-    let got = read(rt, i, &name[..k], text);
-    let n = got.count;
-    if !got.is_good {
-        return Source {
-            is_good: false,
-            count: 0,
-            text: n,
-        };
-    }
-    let told = text_words(&name[..k], 0, &text[..n], words, to);
-    Source {
-        is_good: told.is_good,
-        count: told.count,
-        text: n,
-    }
+    let text = read(rt, i, &name[..k], text)?;
+    let n = text_words(&name[..k], 0, text, words, to)?;
+    Ok(List {
+        words: &words[..n],
+        text,
+    })
 }
 
-// The number that an argument is, or one too large for a word.
-pub fn number(rt: &impl Env, i: usize) -> u64 {
+// The number that an argument is, if it is one that a word has room for.
+pub fn number(rt: &impl Env, i: usize) -> Option<u32> {
     let mut digits = [0u8; 16];
-    let n = host::arg(rt, i, &mut digits);
-    if n == 0 {
-        return wordlist::NO_NUMBER;
+    match host::arg(rt, i, &mut digits) {
+        0 => None,
+        n => wordlist::number(&digits[..n]),
     }
-    wordlist::number(&digits[..n])
 }
 
 // ---- problems
 
-// Whether bytes end with others.
-fn ends_with(s: &[u8], end: &[u8]) -> bool {
-    if s.len() < end.len() {
-        return false;
-    }
-    let from = s.len() - end.len();
-    wordlist::is_same(&s[from..], end)
-}
-
 // Whether bytes begin with the mark of a problem file.
 fn has_mark(bytes: &[u8]) -> bool {
-    if bytes.len() < 3 {
-        return false;
-    }
-    reader::is_marked(bytes)
+    3 <= bytes.len() && reader::is_marked(bytes)
 }
 
-// The words of a problem file in the front of a buffer that is large enough: how many they are, or 0 and why it is refused is said.
-pub fn decoded(rt: &impl Env, file: &[u8], words: &mut [u32]) -> usize
+// The words of a problem file, in a buffer that is large enough; why it is refused is said.
+pub fn decoded<'a>(rt: &impl Env, file: &[u8], words: &'a mut [u32]) -> Result<&'a [u32], Told>
     requires { most_words ≤ length words.old }
-    ensures prefix_len { IsPrefixLen result words.new }
-    ensures well_formed { 0 < result → WellFormed (take result words.new) }
+    ensures { IfOk result (λ p. WellFormed p.now) }
 {
-    let got = reader::decode(file, words);
-    let Answer::Problem(n) = got else {
-        reasons::of_file(
-            rt,
-            reader::answer::refusal_of(got),
-            file,
-            &[],
-            &[],
-            &[],
-            Subject::Given,
-        );
-        return 0;
-    };
-    n
+    match reader::decode(file, words) {
+        Ok(n) => Ok(&words[..n]),
+        Err(q) => {
+            reasons::of_file(rt, q, Call::on(file));
+            Err(Told)
+        }
+    }
 }
 
-// The version of a problem file.
+// The version of a problem file; one that is too short to say it is refused elsewhere.
 pub fn layout(file: &[u8]) -> Layout {
     if file.len() < HEAD_BYTES {
-        return Layout::One;
+        Layout::One
+    } else {
+        reader::layout_in(file)
     }
-    reader::layout_in(file)
 }
 
 // Writes the file of a problem's words, which a text has, over the bytes lent, or says why they are refused.
-pub fn written(
+pub fn written<'a>(
     rt: &impl Env,
     words: &[u32],
     text: &[u8],
-    bytes: &mut [u8],
+    bytes: &'a mut [u8],
     subject: Subject,
-) -> Taken
-    ensures { IsPrefixLen result.count bytes.new }
-{
-    let got = writer::write(words, bytes);
-    match got {
-        Written::Refused(q) => {
+) -> Result<&'a [u8], Told> {
+    match writer::write(words, bytes) {
+        Ok(n) => Ok(&bytes[..within(n, bytes)]),
+        Err(q) => {
             reasons::of_words(rt, q, words, text, subject);
-            Taken {
-                is_good: false,
-                count: 0,
-            }
+            Err(Told)
         }
-        Written::File(n) => Taken {
-            is_good: true,
-            count: within_bytes(n, bytes),
-        },
     }
-}
-
-// Copies bytes to the front of others, as many as there is room for.
-fn copy(from: &[u8], to: &mut [u8]) -> usize
-    ensures { IsPrefixLen result to.new }
-{
-    let mut i: usize = 0;
-    while i < from.len() {
-        if to.len() <= i {
-            break;
-        }
-        to[i] = from[i];
-        i += 1;
-    }
-    i
 }
 
 // The problem file that an argument names, and its text. A name that ends in .tsm and a file that begins with the mark are problem files;
 // anything else is a word list, of which the file is made here.
-pub fn problem<R: Env + Files + Input>(
+pub fn problem<'a, R: Env + Files + Input>(
     rt: &R,
     subject: Subject,
-    text: &mut [u8],
-    bytes: &mut [u8],
-) -> Source
-    ensures { IsPrefixLen result.count bytes.new × IsPrefixLen result.text text.new }
-{
+    text: &'a mut [u8],
+    bytes: &'a mut [u8],
+) -> Result<Source<'a>, Told> {
     let mut name = io::buffer();
-    let i = origin::problem_at(subject);
+    let i = subject.problem_at();
     let m = host::arg(rt, i, &mut name);
-    let got = read(rt, i, &name[..m], text);
-    let n = got.count;
-    if !got.is_good {
-        return Source {
-            is_good: false,
-            count: 0,
-            text: n,
-        };
-    }
-    if ends_with(&name[..m], b".tsm") | has_mark(&text[..n]) {
-        let count = copy(&text[..n], bytes);
-        return Source {
-            is_good: true,
-            count,
-            text: 0,
-        };
+    let name = &name[..m];
+    let text = read(rt, i, name, text)?;
+    if name.ends_with(b".tsm") || has_mark(text) {
+        return Ok(Source {
+            file: text,
+            text: &[],
+        });
     }
     let mut words = [0u32; LIST_WORDS];
-    let told = text_words(&name[..m], 0, &text[..n], &mut words, Use::List);
-    if !told.is_good {
-        return Source {
-            is_good: false,
-            count: 0,
-            text: n,
-        };
-    }
-    let k = told.count;
-    let file = written(rt, &words[..k], &text[..n], bytes, subject);
-    Source {
-        is_good: file.is_good,
-        count: file.count,
-        text: n,
-    }
+    let n = text_words(name, 0, text, &mut words, Use::List)?;
+    let file = written(rt, &words[..n], text, bytes, subject)?;
+    Ok(Source { file, text })
 }

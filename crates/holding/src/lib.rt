@@ -1,72 +1,68 @@
 // A log of the bus held against the plan, and the log that is due.
 #![tactic(auto)]
 
-ghost use Rattle.std.specs.Prelude.{◌<◌};
-ghost use Rattle.rules.specs.Problem.{WellFormed};
+ghost use Rattle.std.specs.Prelude.{◌<◌, IfSome};
+ghost use Rattle.rules.specs.Problem.{WellFormed, most_messages};
+ghost use Rattle.holding.specs.Sources.{OfPlan};
 
 use basics::FILL;
-use bus_log::{Difference, Due, Held, PAIR};
+use bus_log::{Difference, PAIR};
 use files::{input, pieces};
+use reasons::Call;
 use rules::words;
 use std::rt::{Env, Files};
 
 // ---- a send
 
-// What has an identifier.
+// What has an identifier: the reference message, or the message of this number.
 #[derive(Clone, Copy)]
-enum Bearer {
+enum Source {
     Reference,
     Message(usize),
-    Nothing,
 }
 
-// What has this identifier.
-fn bearer_of(p: &[u32], identifier: usize) -> Bearer
+// What has this identifier, if the plan has it.
+fn source_of(p: &[u32], identifier: usize) -> Option<Source>
     requires { WellFormed p.now }
+    ensures { IfSome result OfPlan }
 {
     if identifier == words::ref_id_of(p) {
-        return Bearer::Reference;
+        return Some(Source::Reference);
     }
-    let j = carried::message_of(p, identifier);
-    if j < words::messages_of(p) {
-        return Bearer::Message(j);
-    }
-    Bearer::Nothing
+    let j = carried::message_of(p, identifier)?;
+    Some(Source::Message(j))
 }
 
 // Names what has an identifier.
-fn name(bearer: Bearer) {
-    match bearer {
-        Bearer::Reference => paper::text(b"reference message"),
-        Bearer::Message(j) => paper::text_count(b"message ", j),
-        Bearer::Nothing => paper::text(b"no message of the plan"),
+fn name(source: Option<Source>) {
+    match source {
+        Some(Source::Reference) => paper::text(b"reference message"),
+        Some(Source::Message(j)) => paper::text_count(b"message ", j),
+        None => paper::text(b"no message of the plan"),
     }
 }
 
 // The column of a message that has one.
-fn show_column(w: &[u32], bearer: Bearer) {
-    let Bearer::Message(j) = bearer else {
-        return;
-    };
-    if words::MOST_MESSAGES <= j {
-        return;
+fn show_column(w: &[u32], source: Option<Source>)
+    requires { IfSome source OfPlan }
+{
+    if let Some(Source::Message(j)) = source {
+        if words::gives(w, j) {
+            paper::text_count(b", column ", words::column_of(w, j));
+        }
     }
-    if !words::gives(w, j) {
-        return;
-    }
-    paper::text_count(b", column ", words::column_of(w, j));
 }
 
 // What the plan has at a time with this identifier: a message, its matrix cycle, row and column.
 fn describe(p: &[u32], w: &[u32], time: usize, identifier: usize)
     requires { WellFormed p.now }
 {
-    let bearer = bearer_of(p, identifier);
+    let source = source_of(p, identifier);
     let row = time / words::cycle_of(p);
-    name(bearer);
+    name(source);
     paper::text_count(b", matrix cycle ", row / words::rows_of(p));
     paper::text_count(b", row ", row % words::rows_of(p));
-    show_column(w, bearer);
+    show_column(w, source);
 }
 
 // A time and an identifier.
@@ -93,14 +89,13 @@ fn show_logged(p: &[u32], log: &[u32], pair: usize)
     requires { WellFormed p.now × (pair < 4294967296) }
 {
     paper::text(b"in the log: ");
-    let at = PAIR * pair;
-    if log.len() <= at + 1 {
+    let Some([time, identifier, ..]) = log.get(PAIR * pair..) else {
         paper::line(b"nothing, the log ends there");
         return;
-    }
-    let identifier = log[at + 1] as usize;
-    show_pair(log[at] as usize, identifier);
-    name(bearer_of(p, identifier));
+    };
+    let identifier = *identifier as usize;
+    show_pair(*time as usize, identifier);
+    name(source_of(p, identifier));
     paper::end_line();
 }
 
@@ -129,81 +124,53 @@ fn show_list(p: &[u32], w: &[u32], list: &[u32])
     requires { WellFormed p.now }
 {
     paper::say(b"done\n");
-    let mut at: usize = 0;
-    while at + PAIR <= list.len() {
-        let time = list[at] as usize;
-        let identifier = list[at + 1] as usize;
+    for pair in list.chunks_exact(PAIR) {
+        let time = pair[0] as usize;
+        let identifier = pair[1] as usize;
         paper::count(time);
         paper::text_hex(b" ", identifier);
         paper::text(b"  # ");
         describe(p, w, time, identifier);
         paper::end_line();
-        at += PAIR;
     }
 }
 
-// What is shown of sends: where a log of them differs, or what each is that is due.
-#[derive(Drop)]
-enum View {
-    Difference(Difference),
-    List,
-}
-
-// Shows sends of a well-formed problem.
-fn present(view: View, p: &[u32], w: &[u32], sends: &[u32])
-    requires { WellFormed p.now }
-{
-    match view {
-        View::Difference(d) => show_difference(p, w, sends, d),
-        View::List => show_list(p, w, sends),
-    }
-}
-
-// Reads the problem once more, and shows sends of it.
-fn show(rt: &impl Env, view: View, file: &[u8], w: &[u32], sends: &[u32]) {
-    let mut words = [FILL; words::MOST_WORDS];
-    let n = input::decoded(rt, file, &mut words);
-    if 0 < n {
-        present(view, &words[..n], w, sends);
-    }
-}
-
-// Holds a log against a proposal, and says what came of it.
-fn hold(rt: &impl Env, file: &[u8], text: &[u8], w: &[u32], plan: &[u8], log: &[u32], span: u32) {
-    let got = bus_log::hold(file, w, log, span);
-    match got {
-        Held::Refused(q) => reasons::of_log(rt, q, file, text, w, plan, log.len(), span),
-        Held::Clean => show_clean(log.len() / PAIR, span),
-        Held::Differs(d) => show(rt, View::Difference(d), file, w, log),
+// Holds a log against a proposal, and says what came of it; the problem is read once more where the log differs.
+fn hold(rt: &impl Env, call: Call, log: &[u32], span: u32) {
+    match bus_log::hold(call.file, call.words, log, span) {
+        Err(q) => reasons::of_log(rt, q, call, log.len(), span),
+        Ok(None) => show_clean(log.len() / PAIR, span),
+        Ok(Some(d)) => {
+            let mut words = [FILL; words::MOST_WORDS];
+            let n = input::decoded(rt, call.file, &mut words);
+            if 0 < n {
+                show_difference(&words[..n], call.words, log, d);
+            }
+        }
     }
 }
 
 // Shows what a proposal has due in so many matrix cycles.
-pub fn show_due(rt: &impl Env, file: &[u8], text: &[u8], w: &[u32], plan: &[u8], span: u32) {
+pub fn show_due(rt: &impl Env, call: Call, span: u32) {
     let mut sends = [FILL; bus_log::MOST_WORDS];
-    let got = bus_log::due(file, w, span, &mut sends);
-    match got {
-        Due::Refused(q) => reasons::of_log(rt, q, file, text, w, plan, 0, span),
-        Due::Words(n) => {
-            let n = input::within(n, &sends);
-            show(rt, View::List, file, w, &sends[..n]);
+    match bus_log::due(call.file, call.words, span, &mut sends) {
+        Err(q) => reasons::of_log(rt, q, call, 0, span),
+        Ok(count) => {
+            let count = input::within(count, &sends);
+            let mut words = [FILL; words::MOST_WORDS];
+            let n = input::decoded(rt, call.file, &mut words);
+            if 0 < n {
+                show_list(&words[..n], call.words, &sends[..count]);
+            }
         }
     }
 }
 
 // Holds the log that an argument names.
-pub fn hold_file<R: Env + Files + Input>(
-    rt: &R,
-    file: &[u8],
-    text: &[u8],
-    w: &[u32],
-    plan: &[u8],
-    span: u32,
-) {
+pub fn hold_file<R: Env + Files + Input>(rt: &R, call: Call, span: u32) {
     let mut log = [FILL; pieces::LOG_WORDS];
-    let got = pieces::words(rt, 4, &mut log);
+    let got = pieces::words(rt, origin::LOG, &mut log);
     if got.is_good {
-        let n = got.count;
-        hold(rt, file, text, w, plan, &log[..n], span);
+        hold(rt, call, &log[..got.count], span);
     }
 }

@@ -4,14 +4,14 @@ use mathlib.Core.Path.{◌≡◌, sym, ◌∙◌}
 use mathlib.Core.List.{List}
 use native.Mathlib.Nat.{mul-le-mul}
 use native.Mathlib.Omega.{arith}
+use Rattle.std.specs.Prelude.{Ok}
 use Rattle.rules.specs.Problem.{matrix, WellFormed}
 use Rattle.rules.proofs.Bounds.{rows-least}
+use Rattle.rules.specs.Refusal.{Fault}
 use Rattle.proposal.specs.Accepted.{Accepted}
 use Rattle.losses.specs.declared.BusTime.{BusTime}
 use Rattle.losses.specs.Losses.{FiguresAre}
 use Rattle.losses.proofs.Sum.{losses-sum}
-use Rattle.std.specs.Prelude.{Ok}
-use Rattle.rules.specs.Refusal.{Fault}
 
 -- two that the rules allow are equal
 pub figures-one : {x : Fault} {p w : List ℕ} {s t : BusTime} → FiguresAre x p w s → FiguresAre x p w t → s ≡ t

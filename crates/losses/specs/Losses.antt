@@ -5,9 +5,9 @@ use Rattle.basics.specs.Tests.{some}
 use Rattle.rules.specs.Paper.{figure_for}
 use Rattle.rules.specs.Problem.{rows, cycle, matrix, ref_len, columns, messages, start, width, lasts}
 use Rattle.rules.specs.Sends.{send_at}
+use Rattle.rules.specs.Refusal.{Fault}
 use Rattle.cells.specs.Cells.{starts_at, occupied}
 use Rattle.losses.specs.declared.BusTime.{BusTime}
-use Rattle.rules.specs.Refusal.{Fault}
 
 -- ---- reference: R · f
 abbrev pub reference : List ℕ → ℕ

@@ -3,6 +3,7 @@ use Prim.Native.Nat.{ℕ, ◌+◌, ◌*◌, ◌<◌}
 use mathlib.Core.Path.{◌≡◌, ap}
 use mathlib.Core.List.{List}
 use native.Mathlib.Omega.{arith}
+use Rattle.std.specs.Prelude.{Ok}
 use Rattle.rules.specs.Problem.{WellFormed, InRange, Gives, cycle, messages, start, period, offset, deadline, lasts, column, row}
 use Rattle.rules.specs.Sends.{send_at, release, Serves, Acceptable}
 use Rattle.rules.specs.Tests.{wait, own_fault, proposal_fault}
@@ -12,7 +13,6 @@ use Rattle.rules.proofs.Slots.{Slot, slot}
 use Rattle.rules.proofs.Exact.{exact}
 use Rattle.margins.specs.declared.Margin.{Margin}
 use Rattle.margins.specs.Margins.{Leaves, MarginOf}
-use Rattle.std.specs.Prelude.{Ok}
 
 module _ (p w : List ℕ) (j : ℕ) (s : Slot p w j) where
   -- the wait is that from a release to a send

@@ -4,13 +4,13 @@ use mathlib.Core.Path.{◌≡◌, refl, sym, ◌∙◌}
 use mathlib.Core.Bool.{Bool, false}
 use mathlib.Core.List.{List}
 use native.Mathlib.Omega.{arith}
+use Rattle.std.specs.Prelude.{Ok, Err}
+use Rattle.std.specs.Result.{is_err}
 use Rattle.rules.specs.Problem.{lasts, deadline}
 use Rattle.rules.specs.Tests.{wait, own_fault}
 use Rattle.rules.proofs.Meaning.{Alone, own_alone}
-use Rattle.margins.specs.Margins.{MarginAt}
-use Rattle.std.specs.Prelude.{Ok, Err}
-use Rattle.std.specs.Result.{is_err}
 use Rattle.rules.specs.Refusal.{Fault}
+use Rattle.margins.specs.Margins.{MarginAt}
 
 no-error : (f : Fault) → is_err f ≡ false → f ≡ Ok tt
 no-error (Ok tt) h = refl

@@ -1,12 +1,13 @@
 // Where something stands in what a person wrote: the file by its name, and the line of a text or the byte of a problem file.
 #![tactic(auto)]
 
-ghost use Rattle.std.specs.Prelude.{◌*◌, ◌<◌, ◌≤◌};
-ghost use Rattle.rules.specs.Parts.{Member};
+ghost use Rattle.std.specs.Prelude.{◌≡◌, ◌<◌, ◌≤◌};
+ghost use Rattle.origin.specs.Standing.{HasWord, words_before};
 
 use problem::layout::{column_size, identifier_size, message_size};
 use problem::{HEAD_BYTES, Layout};
-use rules::words::{COLUMN_WORDS, HEADER_WORDS, MESSAGE_WORDS};
+use rules::words;
+use rules::words::{HEADER_WORDS, MESSAGE_WORDS};
 use std::rt::Env;
 use wordlist::lines;
 
@@ -19,6 +20,25 @@ pub enum Subject {
     Carried,
 }
 
+impl Subject {
+    // The argument that names the problem.
+    pub fn problem_at(self) -> usize {
+        match self {
+            Subject::Old => 3,
+            _ => 2,
+        }
+    }
+
+    // The argument that names the plan or the placements to keep; for those that were carried over, the problem.
+    pub fn plan_at(self) -> usize {
+        match self {
+            Subject::Old => 4,
+            Subject::Carried => 2,
+            _ => 3,
+        }
+    }
+}
+
 // The arguments that name events and a log.
 pub const EVENTS: usize = 2;
 
@@ -26,11 +46,10 @@ pub const LOG: usize = 4;
 
 // Says a name; a dash is standard input.
 pub fn say_name(name: &[u8]) {
-    if wordlist::is_same(name, b"-") {
-        paper::say(b"standard input");
-        return;
+    match name {
+        b"-" => paper::say(b"standard input"),
+        _ => paper::say(name),
     }
-    paper::say(name);
 }
 
 // Says text, and the name that an argument gives behind it.
@@ -41,61 +60,54 @@ pub fn named(rt: &impl Env, s: &[u8], i: usize) {
     say_name(&name[..n]);
 }
 
-// The argument that names the problem.
-pub fn problem_at(subject: Subject) -> usize {
-    match subject {
-        Subject::Old => 3,
-        _ => 2,
-    }
-}
-
-// The argument that names the plan or the placements to keep; for those that were carried over, the problem.
-pub fn plan_at(subject: Subject) -> usize {
-    match subject {
-        Subject::Old => 4,
-        Subject::Carried => 2,
-        _ => 3,
-    }
-}
-
 // Says the line that has word k of a text, if there is one.
 pub fn line(text: &[u8], k: usize) {
-    if 0 < text.len() {
+    if !text.is_empty() {
         paper::say_count(b", line ", lines::line_at(text, k));
     }
 }
 
 // ---- the words of a problem
 
-// How much so many records have, each so many words or bytes.
-fn all_of(size: usize, records: usize) -> usize
-    requires { (size ≤ 20) × (records < 68719476736) }
-    ensures { result ≤ 20 * 68719476736 }
-{
-    size * records
+// A word of a problem: of its header, or of the record of a column or a message, the first by its number.
+#[derive(Clone, Copy)]
+pub enum Word {
+    Header(usize),
+    Column(u32, usize),
+    Message(u32, usize),
 }
 
-// A problem has three words for a column. Where a text has word k of one, in which a column has so many words.
-pub fn said_at(k: usize, columns: usize, size: usize) -> usize
-    requires { (k < 68719476736) × (columns < 4294967296) × (size ≤ 3) }
-{
-    let messages = HEADER_WORDS + COLUMN_WORDS * columns;
-    if k < HEADER_WORDS {
-        return k;
-    }
-    if k < messages {
-        let at = k - HEADER_WORDS;
-        return HEADER_WORDS + all_of(size, at / COLUMN_WORDS) + at % COLUMN_WORDS;
-    }
-    HEADER_WORDS + all_of(size, columns) + (k - messages)
+// How a problem was given: as a file of some version, or as a text in which a column has so many words.
+#[derive(Clone, Copy)]
+pub enum Given<'a> {
+    File(Layout),
+    Text(&'a [u8], usize),
 }
 
-// Says the line that has message j of a problem in a text, in which a column has so many words.
-pub fn message_line(p: &[u32], text: &[u8], size: usize, j: usize)
-    requires { Member p.now j × (size ≤ 3) }
+// The byte of a file's header at which each of its words stands.
+pub const HEADER_BYTES: [usize; HEADER_WORDS] = [
+    problem::ROWS_AT,
+    problem::CYCLE_AT,
+    problem::REF_LEN_AT,
+    problem::REF_ID_AT,
+    problem::LIMIT_AT,
+    problem::COLUMNS_AT,
+    problem::MESSAGES_AT,
+];
+
+// How many words a text has before a word of a problem with so many columns, in which a column has so many words.
+fn said_at(word: Word, columns: u32, size: usize) -> usize
+    requires { HasWord word × (size ≤ 3) }
+    ensures { result ≡ words_before size columns word }
 {
-    let front = HEADER_WORDS + all_of(size, rules::words::columns_of(p));
-    line(text, front + MESSAGE_WORDS * j);
+    match word {
+        Word::Header(k) => k,
+        Word::Column(c, i) => HEADER_WORDS + size * c as usize + i,
+        Word::Message(j, i) => HEADER_WORDS
+            + size * columns as usize
+            + MESSAGE_WORDS * j as usize
+            + i,
+    }
 }
 
 // The byte of a message's record at which a word of it stands, where the identifier has so many bytes.
@@ -103,40 +115,39 @@ fn message_byte(word: usize, identifier: usize) -> usize
     requires { identifier ≤ 4 }
     ensures { result < 32 }
 {
-    if word == rules::words::IDENTIFIER {
-        0
-    } else if word == rules::words::SENDER {
-        identifier
-    } else if word == rules::words::SIZE {
-        identifier + 1
-    } else if word == rules::words::RECEIVERS {
-        identifier + 2
-    } else if word == rules::words::PERIOD {
-        identifier + 4
-    } else if word == rules::words::OFFSET {
-        identifier + 8
-    } else {
-        identifier + 12
+    match word {
+        words::IDENTIFIER => 0,
+        words::SENDER => identifier,
+        words::SIZE => identifier + 1,
+        words::RECEIVERS => identifier + 2,
+        words::PERIOD => identifier + 4,
+        words::OFFSET => identifier + 8,
+        _ => identifier + 12,
     }
 }
 
-// The byte at which a file of a version has word k behind its header.
-pub fn byte_at(k: usize, columns: usize, layout: Layout) -> usize
-    requires { (k < 68719476736) × (columns < 4294967296) }
+// The byte at which a file of a version has a word of a problem with so many columns.
+fn byte_at(word: Word, columns: u32, layout: Layout) -> usize
+    requires { HasWord word }
 {
-    let messages = HEADER_WORDS + COLUMN_WORDS * columns;
-    if k < HEADER_WORDS {
-        return 0;
+    match word {
+        Word::Header(k) => HEADER_BYTES[k],
+        Word::Column(c, i) => HEAD_BYTES + column_size(layout) * c as usize + 2 * i,
+        Word::Message(j, i) => {
+            HEAD_BYTES
+                + column_size(layout) * columns as usize
+                + message_size(layout) * j as usize
+                + message_byte(i, identifier_size(layout))
+        }
     }
-    if k < messages {
-        let at = k - HEADER_WORDS;
-        return HEAD_BYTES
-            + all_of(column_size(layout), at / COLUMN_WORDS)
-            + 2 * (at % COLUMN_WORDS);
+}
+
+// Says where a problem with so many columns has a word: the byte of its file, or the line of its text, if there is one.
+pub fn place(word: Word, columns: u32, given: Given)
+    requires { HasWord word }
+{
+    match given {
+        Given::File(layout) => paper::say_count(b", byte ", byte_at(word, columns, layout)),
+        Given::Text(text, size) => line(text, said_at(word, columns, size.min(3))),
     }
-    let at = k - messages;
-    HEAD_BYTES
-        + all_of(column_size(layout), columns)
-        + all_of(message_size(layout), at / MESSAGE_WORDS)
-        + message_byte(at % MESSAGE_WORDS, identifier_size(layout))
 }

@@ -1,10 +1,10 @@
 // What stands above the bars: the windows' names, and when each begins.
 ghost use Rattle.std.specs.Prelude.{◌≤◌};
-ghost use Rattle.rules.specs.Problem.{WellFormed};
-ghost use Rattle.picture.specs.Drawn.{Drawn, longest};
+ghost use Rattle.picture.specs.Drawn.{longest};
 
 use super::layout::Scale;
-use super::{layout, svg};
+use super::svg::Place;
+use super::{Picture, layout, svg};
 use rules::words;
 use sheet::Kind;
 
@@ -43,74 +43,67 @@ fn width_of(time: usize) -> usize
 
 // A time of the axis, with its mark.
 fn tick(s: Scale, time: usize)
-    requires { Drawn s × (time ≤ longest) }
+    requires { time ≤ longest }
 {
-    let x = layout::place_of(s, time);
-    svg::rect(b"x", x, layout::bar_top(s, 0) - MARK, THICK, MARK);
-    svg::begin_text(b"t m", x, layout::bar_top(s, 0) - TIMES_ABOVE);
+    let x = s.x_of(time);
+    let y = s.bar_top(0);
+    svg::rect(
+        b"x",
+        Place {
+            x,
+            y: y - MARK,
+            width: THICK,
+            height: MARK,
+        },
+    );
+    svg::begin_text(b"t m", x, y - TIMES_ABOVE);
     paper::count(time);
     svg::end_text();
 }
 
 // When each window begins, where there is room for it; the cycle's end has the last place.
-fn times(p: &[u32], s: Scale)
-    requires { WellFormed p.now × Drawn s }
-{
-    let columns = words::columns_of(p);
+fn times(picture: &Picture) {
+    let p = picture.p;
+    let s = picture.scale;
     let cycle = words::cycle_of(p);
-    let end = layout::place_of(s, cycle);
-    let mut free: usize = layout::LEFT + ZERO;
-    let mut c: usize = 0;
-    while c < columns {
+    let end = s.x_of(cycle);
+    let mut free = layout::LEFT + ZERO;
+    for c in 0..words::columns_of(p) {
         let start = words::start_of(p, c);
-        let x = layout::place_of(s, start);
+        let x = s.x_of(start);
         let width = width_of(start);
-        if (free <= x) & (x + width <= end) {
+        if free <= x && x + width <= end {
             tick(s, start);
             free = x + width;
         }
-        c += 1;
     }
     tick(s, cycle);
 }
 
-// A window's name or number.
-fn label(text: &[u8], c: usize) {
-    if names::length(text, Kind::Column, c) == 0 {
-        paper::count(c);
-    }
-    names::put(text, Kind::Column, c);
-}
-
-// A window's name above its middle, slanted or level.
-fn name(text: &[u8], s: Scale, c: usize, x: usize)
-    requires { Drawn s }
-{
-    let y = layout::bar_top(s, 0) - NAMES_ABOVE;
+// A window's name or number above its middle, slanted or level.
+fn name(text: &[u8], s: Scale, c: usize, x: usize) {
+    let y = s.bar_top(0) - NAMES_ABOVE;
     if s.is_slanted {
         svg::begin_slanted(x, y);
     } else {
         svg::begin_text(b"m", x, y);
     }
-    label(text, c);
+    names::called(text, Kind::Column, c, b"");
     svg::end_text();
 }
 
 // The windows' names, where there is room for them.
-fn names(p: &[u32], text: &[u8], s: Scale)
-    requires { WellFormed p.now × Drawn s }
-{
-    let columns = words::columns_of(p);
-    let mut free: usize = layout::LEFT + REFERENCE;
-    let mut c: usize = 0;
-    while c < columns {
-        let width = layout::length_of(s, words::width_of(p, c));
-        let x = layout::place_of(s, words::start_of(p, c)) + width / 2;
+fn names(picture: &Picture) {
+    let p = picture.p;
+    let s = picture.scale;
+    let mut free = layout::LEFT + REFERENCE;
+    for c in 0..words::columns_of(p) {
+        let width = s.length_of(words::width_of(p, c));
+        let x = s.x_of(words::start_of(p, c)) + width / 2;
         if free <= x {
-            name(text, s, c, x);
+            name(picture.text, s, c, x);
             free = x + LINE;
         }
-        c += 1;
     }
 }
 
@@ -126,11 +119,10 @@ fn words_before(top: usize) {
 }
 
 // The names, the times and what they are.
-pub fn show(p: &[u32], text: &[u8], s: Scale)
-    requires { WellFormed p.now × Drawn s }
-{
+pub fn show(picture: &Picture) {
+    let s = picture.scale;
     words_before(s.top);
-    names(p, text, s);
+    names(picture);
     tick(s, 0);
-    times(p, s);
+    times(picture);
 }

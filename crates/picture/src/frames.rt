@@ -1,11 +1,10 @@
 // The sends of the messages, each in its window: the frame with its label, and the rest of the window.
 ghost use Rattle.std.specs.Prelude.{◌<◌, ◌≤◌};
-ghost use Rattle.rules.specs.Problem.{WellFormed, columns};
+ghost use Rattle.rules.specs.Problem.{columns};
 ghost use Rattle.rules.specs.Parts.{Member};
-ghost use Rattle.picture.specs.Drawn.{Drawn, farthest, lowest};
 
-use super::layout::{BAR, Scale};
-use super::{layout, svg};
+use super::svg::Place;
+use super::{Picture, layout, svg};
 use rules::words;
 use sheet::Kind;
 
@@ -35,9 +34,11 @@ fn turns(r: usize, repeat: usize, rows: usize) {
 }
 
 // Its identifier, name, sender and receivers.
-fn ends(p: &[u32], text: &[u8], j: usize)
-    requires { Member p.now j }
+fn ends(picture: &Picture, j: usize)
+    requires { Member picture.now j }
 {
+    let p = picture.p;
+    let text = picture.text;
     paper::right_hex(words::identifier_of(p, j), 0);
     names::bracketed(text, Kind::Message, j);
     paper::end_line();
@@ -48,12 +49,13 @@ fn ends(p: &[u32], text: &[u8], j: usize)
 }
 
 // When it is sent, and what its deadline leaves.
-fn timing(p: &[u32], w: &[u32], j: usize, c: usize, r: usize)
-    requires { Member p.now j × (c < columns p.now) }
+fn timing(picture: &Picture, j: usize, c: usize, r: usize)
+    requires { Member picture.now j × (c < columns picture.now) }
 {
+    let p = picture.p;
     paper::text_count(b"at ", words::start_of(p, c));
     turns(r, words::repeat_of(p, j), words::rows_of(p));
-    let margin = margins::margin_of(p, w, j);
+    let margin = margins::margin_of(p, picture.w, j);
     paper::text_count(b"frame ", margin.frame);
     paper::text_count(b", wait ", margin.wait);
     paper::text_count(b", slack ", margin.slack);
@@ -63,89 +65,72 @@ fn timing(p: &[u32], w: &[u32], j: usize, c: usize, r: usize)
 // ---- what is drawn
 
 // The name of message j in its frame, or its identifier where there is none or nobody could read it.
-fn label(p: &[u32], text: &[u8], j: usize, x: usize, y: usize, width: usize)
-    requires { Member p.now j × (y ≤ lowest) }
+fn label(picture: &Picture, j: usize, place: Place)
+    requires { Member picture.now j }
 {
-    let characters = layout::label_length(text, Kind::Message, j, 0);
-    if (0 < characters) & svg::is_readable(characters, width) {
-        svg::begin_label(b"m", x, y, characters, width);
-        names::put(text, Kind::Message, j);
-    } else {
-        svg::begin_label(b"m", x, y, layout::IDENTIFIER, width);
-        paper::right_hex(words::identifier_of(p, j), 0);
+    match layout::name_length(picture.text, Kind::Message, j) {
+        Some(characters) if svg::is_readable(characters, place.width) => {
+            svg::begin_label(b"m", place, characters);
+            names::put(picture.text, Kind::Message, j);
+        }
+        _ => {
+            svg::begin_label(b"m", place, layout::IDENTIFIER);
+            paper::right_hex(words::identifier_of(picture.p, j), 0);
+        }
     }
     svg::end_text();
-}
-
-// The frame of message j with its label.
-fn frame(p: &[u32], text: &[u8], s: Scale, j: usize, x: usize, y: usize)
-    requires { Member p.now j × Drawn s × (x ≤ farthest) × (y ≤ lowest) }
-{
-    let width = layout::length_of(s, words::frame_of(p, j));
-    svg::sender_rect(words::sender_of(p, j), x, y, width, BAR);
-    label(p, text, j, x + width / 2, y, width);
 }
 
 // The other sends of message j as copies of the first: in each `repeat` rows behind row r.
 fn copies(j: usize, r: usize, repeat: usize, rows: usize)
     requires { (1 ≤ repeat) × (repeat ≤ 64) × (rows ≤ 64) × (r < 4294967296) }
 {
-    let mut behind: usize = repeat;
-    while r + behind < rows {
+    for behind in (repeat..rows.saturating_sub(r)).step_by(repeat) {
         paper::text_count(b"<use xlink:href=\"#m", j);
         svg::end_copy(behind);
-        behind += repeat;
     }
 }
 
-// The sends of message j, in column c and base row r.
-fn sends(p: &[u32], text: &[u8], s: Scale, j: usize, c: usize, r: usize)
-    requires { Member p.now j × Drawn s × (c < columns p.now) × (r < 4294967296) }
+// The sends of message j, in column c and base row r: the window, on it the frame with its label, and copies of both.
+fn sends(picture: &Picture, j: usize, c: usize, r: usize)
+    requires { Member picture.now j × (c < columns picture.now) × (r < 4294967296) }
 {
-    let x = layout::place_of(s, words::start_of(p, c));
-    let y = layout::bar_top(s, r);
+    let p = picture.p;
+    let start = words::start_of(p, c);
+    let frame = picture.scale.part(r, start, words::frame_of(p, j));
     paper::text_count(b"<g id=\"m", j);
     paper::line(b"\">");
-    svg::rect(
-        b"rest",
-        x,
-        y,
-        layout::length_of(s, words::width_of(p, c)),
-        BAR,
-    );
-    frame(p, text, s, j, x, y);
+    svg::rect(b"rest", picture.scale.part(r, start, words::width_of(p, c)));
+    svg::sender_rect(words::sender_of(p, j), frame);
+    label(picture, j, frame);
     paper::line(b"</g>");
     copies(j, r, words::repeat_of(p, j), words::rows_of(p));
 }
 
 // Message j: what is told of it, and its sends. A proposal that is cut short or out of range has none.
-fn message(p: &[u32], w: &[u32], text: &[u8], s: Scale, j: usize)
-    requires { Member p.now j × Drawn s }
+fn message(picture: &Picture, j: usize)
+    requires { Member picture.now j }
 {
+    let w = picture.w;
     if !words::gives(w, j) {
         return;
     }
     let c = words::column_of(w, j);
     let r = words::row_of(w, j);
-    if words::columns_of(p) <= c {
+    if words::columns_of(picture.p) <= c {
         return;
     }
     paper::text(b"<g><title>");
-    ends(p, text, j);
-    timing(p, w, j, c, r);
+    ends(picture, j);
+    timing(picture, j, c, r);
     paper::line(b"</title>");
-    sends(p, text, s, j, c, r);
+    sends(picture, j, c, r);
     paper::line(b"</g>");
 }
 
 // All messages.
-pub fn show(p: &[u32], w: &[u32], text: &[u8], s: Scale)
-    requires { WellFormed p.now × Drawn s }
-{
-    let messages = words::messages_of(p);
-    let mut j: usize = 0;
-    while j < messages {
-        message(p, w, text, s, j);
-        j += 1;
+pub fn show(picture: &Picture) {
+    for j in 0..words::messages_of(picture.p) {
+        message(picture, j);
     }
 }

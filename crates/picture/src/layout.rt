@@ -1,8 +1,9 @@
 // Where things stand in the picture, in tenths of a pixel: times to scale, and the room that names need.
-ghost use Rattle.std.specs.Prelude.{◌*◌, ◌≤◌, ◌<◌};
+ghost use Rattle.std.specs.Prelude.{◌*◌, ◌≤◌, ◌<◌, IfSome};
 ghost use Rattle.rules.specs.Problem.{WellFormed};
-ghost use Rattle.picture.specs.Drawn.{Drawn, longest, widest, farthest, lowest, most_characters};
+ghost use Rattle.picture.specs.Drawn.{longest, widest, farthest, lowest, most_characters};
 
+use super::svg::Place;
 use rules::words;
 use sheet::Kind;
 use sheet::slips::MOST_NAME;
@@ -49,10 +50,14 @@ pub const IDENTIFIER: usize = 5;
 // How wide the bus time is drawn, how long a cycle is, where the first bar stands, and whether the windows' names are slanted.
 #[derive(Clone, Copy)]
 pub struct Scale {
-    pub area: usize,
-    pub cycle: usize,
+    area: usize,
+    cycle: usize,
     pub top: usize,
     pub is_slanted: bool,
+    ghost area_most: { area ≤ widest },
+    ghost cycle_least: { 1 ≤ cycle },
+    pub ghost top_least: { 400 ≤ top },
+    pub ghost top_most: { top ≤ 3000 },
 }
 
 // How wide a time is drawn.
@@ -63,49 +68,62 @@ fn drawn(time: usize, area: usize, cycle: usize) -> usize
     time * area / cycle
 }
 
-pub fn length_of(s: Scale, time: usize) -> usize
-    requires { Drawn s × (time ≤ longest) }
-    ensures { result ≤ longest * widest }
-{
-    drawn(time, s.area, s.cycle)
-}
-
-// Where a time of the cycle stands.
-pub fn place_of(s: Scale, time: usize) -> usize
-    requires { Drawn s × (time ≤ longest) }
-    ensures { result ≤ farthest }
-{
-    LEFT + length_of(s, time)
-}
-
-// How wide the picture is.
-pub fn width_of(s: Scale) -> usize
-    requires { Drawn s }
-{
-    if s.is_slanted {
-        return LEFT + s.area + SLANTED_RIGHT;
+impl Scale {
+    // How wide a time is drawn.
+    pub fn length_of(self, time: usize) -> usize
+        requires { time ≤ longest }
+        ensures { result ≤ longest * widest }
+    {
+        drawn(time, self.area, self.cycle)
     }
-    LEFT + s.area + RIGHT
-}
 
-// Where the bar of row r stands.
-pub fn bar_top(s: Scale, r: usize) -> usize
-    requires { Drawn s × (r < 4294967296) }
-    ensures { (s.top ≤ result) × (result ≤ lowest) }
-{
-    s.top + STEP * r
-}
-
-// How many characters the label of a thing has: its name, or what stands for it.
-pub fn label_length(text: &[u8], kind: Kind, i: usize, otherwise: usize) -> usize
-    requires { otherwise ≤ 5 }
-    ensures { result ≤ most_characters }
-{
-    let own = names::length(text, kind, i).min(MOST_NAME);
-    if own == 0 {
-        return otherwise;
+    // Where a time of the cycle stands.
+    pub fn x_of(self, time: usize) -> usize
+        requires { time ≤ longest }
+        ensures { result ≤ farthest }
+    {
+        LEFT + self.length_of(time)
     }
-    own
+
+    // How wide the picture is.
+    pub fn width(self) -> usize {
+        LEFT + self.area
+            + if self.is_slanted {
+                SLANTED_RIGHT
+            } else {
+                RIGHT
+            }
+    }
+
+    // Where the bar of row r stands.
+    pub fn bar_top(self, r: usize) -> usize
+        requires { r < 4294967296 }
+        ensures { (self.top ≤ result) × (result ≤ lowest) }
+    {
+        self.top + STEP * r
+    }
+
+    // The part of the bar of row r that a time takes which begins at another.
+    pub fn part(self, r: usize, start: usize, time: usize) -> Place
+        requires { (r < 4294967296) × (start ≤ longest) × (time ≤ longest) }
+    {
+        Place {
+            x: self.x_of(start),
+            y: self.bar_top(r),
+            width: self.length_of(time),
+            height: BAR,
+        }
+    }
+}
+
+// How many characters the name of a thing has, if it has one.
+pub fn name_length(text: &[u8], kind: Kind, i: usize) -> Option<usize>
+    ensures { IfSome result (λ n. n ≤ most_characters) }
+{
+    match names::length(text, kind, i) {
+        0 => None,
+        n => Some(n.min(MOST_NAME)),
+    }
 }
 
 // How wide a label of so many characters is.
@@ -128,52 +146,42 @@ fn area_of(p: &[u32], text: &[u8]) -> usize
     requires { WellFormed p.now }
     ensures { result ≤ widest }
 {
-    let messages = words::messages_of(p);
     let cycle = words::cycle_of(p);
-    let mut most: usize = LEAST_AREA;
-    let mut j: usize = 0;
-    while j < messages {
-        let characters = label_length(text, Kind::Message, j, IDENTIFIER);
-        let own = area_for(characters, words::frame_of(p, j), cycle);
-        if most < own {
-            most = own;
-        }
-        j += 1;
-    }
-    most.min(MOST_AREA)
+    (0..words::messages_of(p))
+        .map(|j| {
+            let characters = name_length(text, Kind::Message, j).unwrap_or(IDENTIFIER);
+            area_for(characters, words::frame_of(p, j), cycle)
+        })
+        .max()
+        .unwrap_or(0)
+        .clamp(LEAST_AREA, MOST_AREA)
 }
 
 // Whether the name of each window fits above it.
 fn is_level(p: &[u32], text: &[u8], area: usize) -> bool
     requires { WellFormed p.now × (area ≤ widest) }
 {
-    let columns = words::columns_of(p);
     let cycle = words::cycle_of(p);
-    let mut c: usize = 0;
-    while c < columns {
-        let needed = CHARACTER * label_length(text, Kind::Column, c, 0);
-        if drawn(words::width_of(p, c), area, cycle) < needed {
-            return false;
-        }
-        c += 1;
-    }
-    true
+    (0..words::columns_of(p)).all(|c| {
+        let characters = name_length(text, Kind::Column, c).unwrap_or(0);
+        CHARACTER * characters <= drawn(words::width_of(p, c), area, cycle)
+    })
 }
 
 // How high the windows' names are.
 fn names_height(text: &[u8], columns: usize, is_slanted: bool) -> usize
     ensures { result ≤ 1400 }
 {
-    if !is_slanted {
-        return LEVEL;
+    if is_slanted {
+        LEVEL + SLANTED * names::width(text, Kind::Column, columns).min(MOST_NAME)
+    } else {
+        LEVEL
     }
-    LEVEL + SLANTED * names::width(text, Kind::Column, columns).min(MOST_NAME)
 }
 
 // The scale of a problem.
 pub fn scale_of(p: &[u32], text: &[u8]) -> Scale
     requires { WellFormed p.now }
-    ensures { Drawn result }
 {
     let area = area_of(p, text);
     let is_slanted = !is_level(p, text, area);

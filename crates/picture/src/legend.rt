@@ -1,10 +1,11 @@
 // What stands below the bars: where the bus time goes, the load, and the colours of the nodes that send.
-ghost use Rattle.std.specs.Prelude.{◌≡◌, ◌*◌, ◌≤◌};
+ghost use Rattle.std.specs.Prelude.{◌*◌, ◌≤◌};
 ghost use Rattle.rules.specs.Problem.{WellFormed};
 ghost use Rattle.picture.specs.Drawn.{lowest};
 
 use super::layout::LEFT;
-use super::svg;
+use super::svg::Place;
+use super::{Picture, svg};
 use losses::BusTime;
 use rules::words;
 use sheet::Kind;
@@ -74,78 +75,85 @@ fn share(hundredths: usize, y: usize) {
     svg::end_text();
 }
 
-// The five figures, each on a line of its own.
-fn parts(figures: &[u32; FIGURES], whole: usize, y: usize)
-    requires { (1 ≤ whole) × (y ≤ 2 * lowest) }
-{
-    let mut i: usize = 0;
-    while i < FIGURES {
-        let part = figures[i] as usize;
-        let line = y + (i + 1) * LINE;
-        figure(part, line);
-        share(margins::share(part, whole), line);
-        i += 1;
-    }
-}
-
-// Where the time of a matrix cycle goes, and the load of the bus.
-fn bus_time(t: BusTime, y: usize)
-    requires { (1 ≤ t.reference) × (y ≤ 2 * lowest) }
-{
-    let whole = margins::whole_of(t);
-    let figures = losses::words_of(t);
-    figure(whole, y);
-    parts(&figures, whole, y);
-    share(margins::load_of(t), y + (FIGURES + 1) * LINE);
-}
-
 // Whether a node sends.
 fn is_sender(p: &[u32], n: usize) -> bool
     requires { WellFormed p.now }
 {
-    let messages = words::messages_of(p);
-    let mut j: usize = 0;
-    while j < messages {
-        if words::sender_of(p, j) == n {
-            return true;
-        }
-        j += 1;
+    (0..words::messages_of(p)).any(|j| words::sender_of(p, j) == n)
+}
+
+// Where the legend's first line stands.
+#[derive(Clone, Copy)]
+struct Legend {
+    top: usize,
+    ghost top_least: { 110 ≤ top },
+    ghost top_most: { top ≤ 2 * lowest },
+}
+
+impl Legend {
+    // Where a line stands, so many below the first.
+    fn line(self, i: usize) -> usize
+        requires { i ≤ 6 }
+        ensures { (self.top ≤ result) × (result ≤ 3 * lowest) }
+    {
+        self.top + i * LINE
     }
-    false
-}
 
-// The colour of node n, which has the place k in the legend.
-fn sender(text: &[u8], n: usize, k: usize, y: usize)
-    requires { (k ≤ 16) × (110 ≤ y) × (y ≤ 2 * lowest) }
-{
-    let x = NODES + k / LINES * APART;
-    let line = y + (k % LINES + 1) * LINE;
-    svg::sender_rect(n, x, line - SAMPLE_ABOVE, SAMPLE, SAMPLE_HEIGHT);
-    svg::begin_text(b"l", x + BEHIND, line);
-    names::called(text, Kind::Node, n, b"node ");
-    svg::end_text();
-}
-
-// The colours of all nodes that send.
-fn senders(p: &[u32], text: &[u8], y: usize)
-    requires { WellFormed p.now × (110 ≤ y) × (y ≤ 2 * lowest) }
-{
-    let mut k: usize = 0;
-    let mut n: usize = 0;
-    while n < words::NODES as usize {
-        if is_sender(p, n) {
-            sender(text, n, k, y);
-            k += 1;
+    // Where the time of a matrix cycle goes, each figure on a line of its own, and the load of the bus.
+    fn bus_time(self, t: BusTime)
+        requires { 1 ≤ t.reference }
+    {
+        let whole = margins::whole_of(t);
+        figure(whole, self.line(0));
+        for (i, n) in <[u32; FIGURES]>::from(t).iter().enumerate() {
+            let part = *n as usize;
+            let line = self.line(i + 1);
+            figure(part, line);
+            share(margins::share(part, whole), line);
         }
-        n += 1;
+        share(margins::load_of(t), self.line(FIGURES + 1));
+    }
+
+    // The colour of node n, which has the place k in the legend.
+    fn sender(self, text: &[u8], n: usize, k: usize)
+        requires { k ≤ 16 }
+    {
+        let x = NODES + k / LINES * APART;
+        let line = self.line(k % LINES + 1);
+        svg::sender_rect(
+            n,
+            Place {
+                x,
+                y: line - SAMPLE_ABOVE,
+                width: SAMPLE,
+                height: SAMPLE_HEIGHT,
+            },
+        );
+        svg::begin_text(b"l", x + BEHIND, line);
+        names::called(text, Kind::Node, n, b"node ");
+        svg::end_text();
+    }
+
+    // The colours of all nodes that send.
+    fn senders(self, picture: &Picture) {
+        let mut k: usize = 0;
+        for n in 0..words::NODES as usize {
+            if is_sender(picture.p, n) {
+                self.sender(picture.text, n, k);
+                k += 1;
+            }
+        }
     }
 }
 
 // The legend below the bars.
-pub fn show(p: &[u32], text: &[u8], t: BusTime, bottom: usize)
-    requires { WellFormed p.now × (1 ≤ t.reference) × (bottom ≤ lowest) }
+pub fn show(picture: &Picture, t: BusTime, bottom: usize)
+    requires { (1 ≤ t.reference) × (bottom ≤ lowest) }
 {
-    names(bottom + FIRST);
-    bus_time(t, bottom + FIRST);
-    senders(p, text, bottom + FIRST);
+    let legend = Legend {
+        top: bottom + FIRST,
+    };
+    names(legend.top);
+    legend.bus_time(t);
+    legend.senders(picture);
 }

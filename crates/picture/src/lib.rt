@@ -11,8 +11,30 @@ mod svg;
 ghost use Rattle.std.specs.Prelude.{◌≤◌};
 ghost use Rattle.rules.specs.Problem.{WellFormed};
 
+use layout::Scale;
 use losses::BusTime;
 use rules::words;
+use std::marker::Model;
+
+// A problem, a proposal and the sheet that has the names, with the scale in which they are drawn. A clause sees it as the words of the problem.
+#[derive(Drop)]
+struct Picture<'a> {
+    p: &'a [u32],
+    w: &'a [u32],
+    text: &'a [u8],
+    scale: Scale,
+}
+
+impl<'a> Model for Picture<'a> {
+    ghost use Rattle.std.specs.Prelude.{List, ℕ};
+    ghost use Rattle.rules.specs.Problem.{WellFormed};
+
+    ghost Value = { List ℕ };
+
+    ghost view = { λ s. s.p.now };
+
+    ghost invariant = { λ s. WellFormed s.p.now };
+}
 
 // What it is, in a line above it.
 fn heading(p: &[u32])
@@ -32,13 +54,14 @@ fn heading(p: &[u32])
 pub fn show(p: &[u32], w: &[u32], text: &[u8], t: BusTime)
     requires { WellFormed p.now × (1 ≤ t.reference) }
 {
-    let s = layout::scale_of(p, text);
-    let bottom = layout::bar_top(s, words::rows_of(p));
-    svg::begin(layout::width_of(s), bottom + legend::HEIGHT);
+    let scale = layout::scale_of(p, text);
+    let bottom = scale.bar_top(words::rows_of(p));
+    let picture = Picture { p, w, text, scale };
+    svg::begin(scale.width(), bottom + legend::HEIGHT);
     heading(p);
-    axis::show(p, text, s);
-    cycles::show(p, text, s);
-    frames::show(p, w, text, s);
-    legend::show(p, text, t, bottom);
+    axis::show(&picture);
+    cycles::show(&picture);
+    frames::show(&picture);
+    legend::show(&picture, t, bottom);
     svg::end();
 }

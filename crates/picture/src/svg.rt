@@ -1,6 +1,6 @@
 // The elements of the picture. Lengths are in tenths of a pixel.
-ghost use Rattle.std.specs.Prelude.{◌≤◌};
-ghost use Rattle.picture.specs.Drawn.{lowest, most_characters};
+ghost use Rattle.std.specs.Prelude.{◌*◌, ◌≤◌};
+ghost use Rattle.picture.specs.Drawn.{farthest, lowest, most_characters};
 
 use super::layout::{BAR, CHARACTER, STEP};
 
@@ -65,25 +65,37 @@ fn attribute(name: &[u8], n: usize) {
     paper::text(b"\"");
 }
 
-// Where a rectangle stands, behind its kind.
-fn place(x: usize, y: usize, width: usize, height: usize) {
-    attribute(b"\" x=\"", x);
-    attribute(b" y=\"", y);
-    attribute(b" width=\"", width);
-    attribute(b" height=\"", height);
+// Where something stands, and how large it is. Nothing lies below the legend, which ends far above this bound.
+#[derive(Clone, Copy)]
+pub struct Place {
+    pub x: usize,
+    pub y: usize,
+    pub width: usize,
+    pub height: usize,
+    pub ghost x_most: { x ≤ farthest },
+    pub ghost y_most: { y ≤ 3 * lowest },
+    pub ghost width_most: { width ≤ farthest },
+}
+
+// Ends a rectangle behind its kind.
+fn end_rect(place: Place) {
+    attribute(b"\" x=\"", place.x);
+    attribute(b" y=\"", place.y);
+    attribute(b" width=\"", place.width);
+    attribute(b" height=\"", place.height);
     paper::line(b"/>");
 }
 
 // A rectangle of a kind, and one in the colour of a node.
-pub fn rect(kind: &[u8], x: usize, y: usize, width: usize, height: usize) {
+pub fn rect(kind: &[u8], place: Place) {
     paper::text(b"<rect class=\"");
     paper::text(kind);
-    place(x, y, width, height);
+    end_rect(place);
 }
 
-pub fn sender_rect(sender: usize, x: usize, y: usize, width: usize, height: usize) {
+pub fn sender_rect(sender: usize, place: Place) {
     paper::text_count(b"<rect class=\"n", sender);
-    place(x, y, width, height);
+    end_rect(place);
 }
 
 // Ends a copy of something, which stands so many bars lower.
@@ -121,7 +133,7 @@ pub fn end_text() {
 
 // Where the text of a bar stands.
 pub fn baseline(top: usize) -> usize
-    requires { top ≤ lowest }
+    requires { top ≤ 3 * lowest }
 {
     top + TEXT
 }
@@ -133,11 +145,12 @@ pub fn is_readable(characters: usize, width: usize) -> bool
     LEAST * characters <= width
 }
 
-// Begins the label of something so wide. One that is too long is squeezed, and one that nobody could read then is not shown.
-pub fn begin_label(kind: &[u8], x: usize, top: usize, characters: usize, width: usize)
-    requires { (top ≤ lowest) × (characters ≤ most_characters) }
+// Begins the label of something, in its middle. One that is too long is squeezed, and one that nobody could read then is not shown.
+pub fn begin_label(kind: &[u8], place: Place, characters: usize)
+    requires { characters ≤ most_characters }
 {
-    begin_any(kind, x, baseline(top));
+    let width = place.width;
+    begin_any(kind, place.x + width / 2, baseline(place.y));
     if !is_readable(characters, width) {
         paper::text(b" display=\"none\"");
     } else if width < CHARACTER * characters {

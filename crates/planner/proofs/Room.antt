@@ -19,7 +19,7 @@ use Rattle.lookahead.specs.Probe.{Cautious}
 use Rattle.places.proofs.Meets.{fault-own, low_column, clash-meets, not-met}
 use Rattle.kept.specs.Kept.{put}
 use Rattle.planner.specs.Search.{plan_words, Leaves, Begun, From, Fitting, Full, Suiting, Best, Nowhere, Searched}
-use Rattle.planner.proofs.Gone.{put-stands, Gone, gone-next, found, whole, best-same, nowhere-same}
+use Rattle.planner.proofs.Gone.{put-stands, Gone, gone-next, found, best-same, nowhere-same}
 use Rattle.planner.proofs.Order.{put_keeps, put-column, put-row, put-agree}
 use Rattle.std.specs.Prelude.{Option, None, Some}
 
@@ -37,9 +37,6 @@ pub from_all : {k n m l : ℕ} → m ≤ n → From k n l → From k m l
 from_all h F = record { late = F.late; all = λ j g l. F.all j g (omega arith) }
 
 -- ---- the places that are left
-pub leaves_all : {p o t : List ℕ} (v : List ℕ) → Allows p o t → Leaves p 0 v t
-leaves_all v A = record { own = λ j r c h l g e. ((A.each j r l g).only c e).own; unmet = λ j r c h l g e i q. absurd (omega arith) }
-
 module _ (p v : List ℕ) (k c r : ℕ) (room : Gives v k) where
   -- the earlier messages stand as before
   was : (i : ℕ) → i < k → {j d s : ℕ} → Clash p i (column (put v k c r) i) (row (put v k c r) i) j d s → Clash p i (column v i) (row v i) j d s
@@ -79,19 +76,9 @@ module _ {p t t' : List ℕ} {k c r l : ℕ} (F : Few p) (lk : k < messages p) (
         (eq-or-lt_of_le {n = k} {m = j} h);
   }
 
--- all messages are placed
-pub all_fit : {p v t : List ℕ} {k : ℕ} → messages p ≤ k → Stand p k v → Best (Fitting p t k) (messages p) k v v
-all_fit {p} {v} {t} {k} h S = whole (Fitting p t k) k v (messages p) h record {
-  stands = record { each = λ j l. S.each j (omega arith) };
-  inside = λ j g l. absurd (omega arith);
-}
-
 -- where the messages still unplaced find no room in the table, nothing fits
 pub no_room : {p t : List ℕ} {k l : ℕ} {b : Bool} → From k (messages p) l → Cautious p t l b → b ≡ false → Full p t k
 no_room L A e = record { none = λ w W. (A.refuses e).none w W.stands (record { has = λ j lj hj. W.inside j (L.late j hj) lj }) }
-
-pub nowhere_full : {p v t : List ℕ} {k : ℕ} → Full p t k → Nowhere (Fitting p t k) k v
-nowhere_full F = record { none = λ w W g. F.none w W }
 
 -- ---- what fits into the table of all places that may be taken is what has no fault and no cell that is taken
 module _ {p o t : List ℕ} (A : Allows p o t) where

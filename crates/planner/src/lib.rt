@@ -184,7 +184,11 @@ pub fn plan(file: &[u8], proposal: &mut [u32]) -> Result<usize, Refusal>
     ensures { Planning file.now proposal.old proposal.new result }
 {
     let mut words = [basics::FILL; words::MOST_WORDS];
-    let n = reader::decode(file, &mut words)?;
+    // Document 01 names let .. else for this place.
+    let got = reader::decode(file, &mut words);
+    let Ok(n) = got else {
+        return got;
+    };
     plan_words(&words[..n], proposal)
 }
 
@@ -193,6 +197,10 @@ pub fn replan(file: &[u8], kept: &[u32], proposal: &mut [u32]) -> Result<usize, 
     ensures { Replanning file.now kept.now proposal.old proposal.new result }
 {
     let mut words = [basics::FILL; words::MOST_WORDS];
-    let n = reader::decode(file, &mut words)?;
+    // Document 01 names let .. else for this place.
+    let got = reader::decode(file, &mut words);
+    let Ok(n) = got else {
+        return got;
+    };
     replan_words(&words[..n], kept, proposal)
 }

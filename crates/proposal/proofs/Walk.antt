@@ -13,7 +13,7 @@ use borrow.Author.Tests.{eq-eqb, ne_eqb}
 use Rattle.basics.specs.Tests.{some}
 use Rattle.basics.proofs.Tests.{true-or, not-both, some-none}
 use Rattle.rules.specs.declared.Refusal.{Refusal}
-use Rattle.rules.specs.declared.Refusal.TheVariants.{ProposalLength}
+use Rattle.rules.specs.declared.Refusal.TheVariants.{ProposalLength, Meeting}
 use Rattle.rules.specs.Parts.{Member}
 use Rattle.rules.specs.Problem.{rows, columns, messages, repeat, proposal_words, column, row, WellFormed, Placed}
 use Rattle.rules.specs.Refusal.{guard, ◌⊕◌, first_fault, Fault}
@@ -114,14 +114,14 @@ module _ {partial : Bool} {p w t t' : List ℕ} {j : ℕ} {b : Bool} (u : Turn p
   tells = tells-meeting u.member u.words u.marked placed met-placed
 
   -- where it did not, it meets nobody
-  pub untaken : b ≡ false → meeting_fault p w j ≡ Ok tt
-  untaken h = unmet-clear p w j (some-none j (λ k. meets p w k j) (sym tells ∙ h))
+  pub untaken : b ≡ false → (k : ℕ) → k < j → meets p w k j ≡ false
+  untaken h = some-none j (λ k. meets p w k j) (sym tells ∙ h)
 
   -- a message that meets nobody has no fault, and the words say what it has taken too
-  pub passed-more : meeting_fault p w j ≡ Ok tt → Passed partial p w (j + 1)
+  pub passed-more : ((k : ℕ) → k < j → meets p w k j ≡ false) → Passed partial p w (j + 1)
   unfolding fault
   passed-more h =
-      let clear : fault p w j ≡ Ok tt = rw (u.own, h) in
+      let clear : fault p w j ≡ Ok tt = rw (u.own, unmet-clear p w j h) in
       record { each = below_more _ _ u.before.each (looked-fault partial p w j u.looked-at ∙ clear) }
 
   pub words-passed : RowWords p w (j + 1) t'
@@ -143,11 +143,13 @@ module _ {partial : Bool} {p w t : List ℕ} {j m : ℕ} (a : Passed partial p w
   unfolding fault
   own_first l k e h = first-here l k (rw (← e.is, h))
 
-  -- or, where it has none by itself, its meeting
-  pub met-first : {q : Refusal} → j < m → looked partial w j ≡ true → own_fault p j (column w j) (row w j) ≡ Ok tt → Err q ≡ meeting_fault p w j
-      → Walked (first_fault m (fault_in partial p w)) p w t (Err q)
-  unfolding fault
-  met-first l k own e = first-here l k (rw (own, ← e))
+  -- or, where it has none by itself, its meeting: of that the lowest earlier message is named
+  pub met-first : {i : ℕ} → j < m → looked partial w j ≡ true → own_fault p j (column w j) (row w j) ≡ Ok tt → ((k : ℕ) → k < i → meets p w k j ≡ false) → i < j → meets p w i j ≡ true
+      → Walked (first_fault m (fault_in partial p w)) p w t (Err (Meeting j i))
+  unfolding fault meeting_fault
+  met-first {i} l k own unmet h met =
+      let lowest = first-at j (λ k. guard (meets p w k j) (Meeting j k)) i (Meeting j i) h (λ g h. rw (unmet g h)) (rw met) in
+      first-here l k (rw own lowest)
 
 -- ---- the number of words comes first
 module _ (p w : List ℕ) {n : ℕ} (en : n ≡ proposal_words p) where

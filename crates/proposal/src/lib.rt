@@ -4,13 +4,12 @@
 ghost use Rattle.std.specs.Prelude.{◌≡◌, ◌≤◌, length};
 ghost use Rattle.rules.specs.Problem.{WellFormed, most_words, messages as messageCount, proposal_words, Gives};
 ghost use Rattle.rules.specs.Refusal.{first_fault};
-ghost use Rattle.rules.specs.Parts.{Member};
-ghost use Rattle.rules.specs.Tests.{meeting_fault, proposal_fault};
+ghost use Rattle.rules.specs.Tests.{proposal_fault};
 ghost use Rattle.row_words.specs.RowWords.{RowWords};
 ghost use Rattle.proposal.specs.Accept.{Tested};
 ghost use Rattle.proposal.specs.Partial.{looked, fault_in, Walked, KeptTested};
 
-use rules::{Refusal, placing, refuse_if, words};
+use rules::{Refusal, placing, words};
 
 // Whether message j is tested: of a list that may leave messages out only those that it keeps.
 fn looks_at(partial: bool, w: &[u32], j: usize) -> bool
@@ -20,22 +19,8 @@ fn looks_at(partial: bool, w: &[u32], j: usize) -> bool
     !partial || kept::keeps(w, j)
 }
 
-// The lowest earlier message that message j meets, if there is one.
-fn meeting_fault(p: &[u32], w: &[u32], j: usize) -> Result<(), Refusal>
-    requires { Member p.now j × Gives w.now j }
-    ensures { result ≡ meeting_fault p.now w.now j }
-{
-    for i in 0..j {
-        refuse_if(
-            placing::do_meet(p, w, i, j),
-            Refusal::Meeting(j as u32, i as u32),
-        )?;
-    }
-    Ok(())
-}
-
-// The first message with a fault, and at it the lowest number; whom it meets is looked up only where it finds a cell taken.
-// The row words are those of no message at the start, and of all where there is no fault.
+// The first message with a fault, and at it the lowest number; of a meeting also the lowest earlier message, which is looked up only where a cell is found taken.
+// The row words are those of no message at the start, and of all where there is no fault. Document 01 names the form: nested loops, left by a label that yields the fault.
 fn first_fault(
     p: &[u32],
     w: &[u32],
@@ -47,18 +32,28 @@ fn first_fault(
     ensures { Walked (first_fault messages (fault_in partial p.now w.now)) p.now w.now taken.new result }
 {
     let rows = words::rows_of(p);
-    for j in 0..messages {
-        if looks_at(partial, w, j) {
+    'faults: {
+        for j in 0..messages {
+            if !looks_at(partial, w, j) {
+                continue;
+            }
             let c = words::column_of(w, j);
             let r = words::row_of(w, j);
             let step = words::repeat_of(p, j);
-            placing::own_fault(p, j, step, c, r)?;
+            let own = placing::own_fault(p, j, step, c, r);
+            let Ok(()) = own else {
+                break 'faults own;
+            };
             if row_words::occupy(taken, rows, step, c, r) {
-                meeting_fault(p, w, j)?;
+                for i in 0..j {
+                    if placing::do_meet(p, w, i, j) {
+                        break 'faults Err(Refusal::Meeting(j as u32, i as u32));
+                    }
+                }
             }
         }
+        Ok(())
     }
-    Ok(())
 }
 
 // What is wrong with a proposal for a well-formed problem: its number of words, or the first message with a fault.
@@ -90,7 +85,11 @@ pub fn accept(file: &[u8], proposal: &[u32], words: &mut [u32]) -> Result<usize,
     requires { most_words ≤ length words.old }
     ensures { Tested file.now proposal.now words.new result }
 {
-    let n = reader::decode(file, words)?;
+    // Document 01 names let .. else for this place.
+    let got = reader::decode(file, words);
+    let Ok(n) = got else {
+        return got;
+    };
     proposal_fault(&words[..n], proposal)?;
     Ok(n)
 }

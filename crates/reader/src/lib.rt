@@ -41,8 +41,7 @@ pub fn is_marked(file: &[u8]) -> bool
     requires { 3 ≤ length file.now }
     ensures { result ≡ marked file.now }
 {
-    let mark = b"TSM";
-    (file[0] == mark[0]) & (file[1] == mark[1]) & (file[2] == mark[2])
+    file.starts_with(b"TSM")
 }
 
 // The header's seven words.
@@ -235,7 +234,11 @@ pub fn read(file: &[u8], words: &mut [u32]) -> Result<usize, Refusal>
     ensures { Reading file.now words.old words.new result }
 {
     let mut buffer = [FILL; words::MOST_WORDS];
-    let n = decode(file, &mut buffer)?;
+    // Document 01 names let .. else for this place.
+    let got = decode(file, &mut buffer);
+    let Ok(n) = got else {
+        return got;
+    };
     let said = column_words(layout_in(file));
     let k = columns_in(file);
     let m = messages_in(file);

@@ -3,7 +3,7 @@ ghost use Rattle.std.specs.Prelude.{◌<◌, ◌≤◌};
 ghost use Rattle.reasons.specs.Shares.{most_shares, most_load};
 
 use basics::is_outside;
-use broken::fields::{field, range};
+use broken::fields::{Records, range};
 use broken::{fields, name};
 use response::{
     DATA, DEADLINE, EVENT_WORDS, IDENTIFIER, JITTER, LONGEST_PERIOD, MOST_EVENTS, PERIOD,
@@ -16,135 +16,157 @@ const WHOLE: usize = 10000000000;
 
 const HUNDREDTH: usize = WHOLE / paper::ALL;
 
-// The count of the words of events, which a text has.
-pub fn word_count(events: &[u32], text: &[u8]) {
-    paper::say_things(b": ", events.len(), b" word");
-    paper::say(b"; each event has five, and there are at most 64 events");
-    if events.len() <= EVENT_WORDS * MOST_EVENTS {
-        broken::wrong_line(
-            text,
-            Shape {
-                records: (events.len() + EVENT_WORDS / 2) / EVENT_WORDS,
-                first: EVENT_WORDS,
-                few: 0,
-                short: EVENT_WORDS,
-                other: EVENT_WORDS,
-            },
+// The rules of an event, in the order in which they are tested.
+#[derive(Clone, Copy)]
+enum Rule {
+    Identifier,
+    Data,
+    Period,
+    Jitter,
+    Deadline,
+    Taken,
+}
+
+impl Rule {
+    // The word of an event that breaks the rule.
+    fn word(self) -> usize
+        ensures { result < 5 }
+    {
+        match self {
+            Rule::Identifier | Rule::Taken => IDENTIFIER,
+            Rule::Data => DATA,
+            Rule::Period => PERIOD,
+            Rule::Jitter => JITTER,
+            Rule::Deadline => DEADLINE,
+        }
+    }
+}
+
+// The words of events, and the text that has them.
+#[derive(Clone, Copy)]
+pub struct Events<'a> {
+    pub words: &'a [u32],
+    pub text: &'a [u8],
+}
+
+impl<'a> Events<'a> {
+    // The words of each event.
+    fn records(&self) -> Records<'a> {
+        Records {
+            words: self.words,
+            size: EVENT_WORDS,
+        }
+    }
+
+    // ---- their count
+
+    // What is said of the count of the words.
+    pub fn say_count(&self) {
+        paper::say_things(b": ", self.words.len(), b" word");
+        paper::say(b"; each event has five, and there are at most 64 events");
+        if self.words.len() <= EVENT_WORDS * MOST_EVENTS {
+            broken::wrong_line(
+                self.text,
+                Shape {
+                    records: (self.words.len() + EVENT_WORDS / 2) / EVENT_WORDS,
+                    first: EVENT_WORDS,
+                    few: 0,
+                    short: EVENT_WORDS,
+                    other: EVENT_WORDS,
+                },
+            );
+        }
+    }
+
+    // ---- a rule
+
+    // The first rule that event j breaks.
+    fn broken(&self, j: u32) -> Rule {
+        let events = self.records();
+        let period = events.field(j, PERIOD);
+        if fields::MOST_IDENTIFIER < events.field(j, IDENTIFIER) {
+            Rule::Identifier
+        } else if fields::MOST_DATA < events.field(j, DATA) {
+            Rule::Data
+        } else if is_outside(period, 1, LONGEST_PERIOD) {
+            Rule::Period
+        } else if period <= events.field(j, JITTER) {
+            Rule::Jitter
+        } else if is_outside(events.field(j, DEADLINE), 1, period) {
+            Rule::Deadline
+        } else {
+            Rule::Taken
+        }
+    }
+
+    // What is said of event j, a word of which breaks a rule.
+    fn say_rule(&self, rule: Rule, j: u32) {
+        let events = self.records();
+        let n = events.field(j, rule.word());
+        let period = events.field(j, PERIOD);
+        match rule {
+            Rule::Identifier => fields::identifier(b"identifier ", n),
+            Rule::Data => range(b"data bytes", n, 0, fields::MOST_DATA),
+            Rule::Period => range(b"period", n, 1, LONGEST_PERIOD),
+            Rule::Jitter => fields::below(b"jitter", n, period),
+            Rule::Deadline => fields::deadline(n, period),
+            Rule::Taken => fields::taken(n, b"; event ", events.first_like(j)),
+        }
+    }
+
+    // Event j by its name, and the line that has a word of it.
+    fn begin(&self, j: u32, at: usize)
+        requires { at < 5 }
+    {
+        let id = self.records().field(j, IDENTIFIER);
+        origin::line(self.text, EVENT_WORDS * j as usize + at);
+        name(b", event ", j, id as usize);
+        paper::say(b": ");
+    }
+
+    // Event j, and the first of its rules that it breaks.
+    pub fn say_broken(&self, j: u32) {
+        let rule = self.broken(j);
+        self.begin(j, rule.word());
+        self.say_rule(rule, j);
+    }
+
+    // ---- the load
+
+    // How many shares of the bus time event j asks for, rounded up; none if it has no period or no frame.
+    fn shares_of(&self, j: u32) -> usize
+        ensures { result ≤ most_shares }
+    {
+        let data = self.records().field(j, DATA);
+        let period = self.records().field(j, PERIOD) as usize;
+        if fields::MOST_DATA < data || period == 0 {
+            return 0;
+        }
+        (frame_bits(data as usize) * WHOLE).div_ceil(period)
+    }
+
+    // How many event j and those of higher priority ask for.
+    fn shares_with(&self, j: u32) -> usize
+        ensures { result ≤ most_load }
+    {
+        let id = self.records().field(j, IDENTIFIER);
+        let n = (self.words.len() / EVENT_WORDS).min(MOST_EVENTS) as u32;
+        let mut total: usize = 0;
+        for i in 0..n {
+            if self.records().field(i, IDENTIFIER) <= id {
+                total += self.shares_of(i);
+            }
+        }
+        total
+    }
+
+    // Event j, which has no busy period. Its shares are rounded up, and so is their sum, so that the load is at most what is shown.
+    pub fn say_endless(&self, j: u32) {
+        self.begin(j, IDENTIFIER);
+        paper::say_per_cent(
+            b"with it and the events of higher priority the load is ",
+            self.shares_with(j).div_ceil(HUNDREDTH),
         );
+        paper::say(b", rounded up; the bus must come to rest within 16777216 bit times");
     }
-}
-
-// Which word of an event breaks its first rule.
-fn broken(events: &[u32], j: u32) -> usize
-    ensures { result < 5 }
-{
-    let period = field(events, EVENT_WORDS, j, PERIOD);
-    if fields::MOST_IDENTIFIER < field(events, EVENT_WORDS, j, IDENTIFIER) {
-        IDENTIFIER
-    } else if fields::MOST_DATA < field(events, EVENT_WORDS, j, DATA) {
-        DATA
-    } else if is_outside(period, 1, LONGEST_PERIOD) {
-        PERIOD
-    } else if period <= field(events, EVENT_WORDS, j, JITTER) {
-        JITTER
-    } else if is_outside(field(events, EVENT_WORDS, j, DEADLINE), 1, period) {
-        DEADLINE
-    } else {
-        IDENTIFIER
-    }
-}
-
-// The identifier of an event: out of its range, or another event's.
-fn identifier(events: &[u32], j: u32, id: u32) {
-    if fields::MOST_IDENTIFIER < id {
-        fields::identifier(b"identifier ", id);
-    } else {
-        fields::taken(id, b"; event ", fields::first_like(events, EVENT_WORDS, j));
-    }
-}
-
-// What is said of a word of an event that breaks a rule.
-fn rule(events: &[u32], j: u32, at: usize)
-    requires { at < 5 }
-{
-    let n = field(events, EVENT_WORDS, j, at);
-    let period = field(events, EVENT_WORDS, j, PERIOD);
-    if at == IDENTIFIER {
-        identifier(events, j, n);
-    } else if at == DATA {
-        range(b"data bytes", n, 0, fields::MOST_DATA);
-    } else if at == PERIOD {
-        range(b"period", n, 1, LONGEST_PERIOD);
-    } else if at == JITTER {
-        fields::below(b"jitter", n, period);
-    } else {
-        fields::deadline(n, period);
-    }
-}
-
-// An event by its name, and the line that has a word of it.
-fn begin(events: &[u32], text: &[u8], j: u32, at: usize)
-    requires { at < 5 }
-{
-    let id = field(events, EVENT_WORDS, j, IDENTIFIER);
-    origin::line(text, EVENT_WORDS * j as usize + at);
-    name(b", event ", j as usize, id as usize);
-    paper::say(b": ");
-}
-
-// An event, and the first of its rules that it breaks.
-pub fn event(events: &[u32], text: &[u8], j: u32) {
-    let at = broken(events, j);
-    begin(events, text, j, at);
-    rule(events, j, at);
-}
-
-// How many shares of the bus time event j asks for, rounded up; none if it has no period or no frame.
-fn shares_of(events: &[u32], j: u32) -> usize
-    ensures { result ≤ most_shares }
-{
-    let data = field(events, EVENT_WORDS, j, DATA);
-    let period = field(events, EVENT_WORDS, j, PERIOD) as usize;
-    if fields::MOST_DATA < data {
-        return 0;
-    }
-    if period == 0 {
-        return 0;
-    }
-    (frame_bits(data as usize) * WHOLE + (period - 1)) / period
-}
-
-// The same; none if it has a lower priority than an identifier.
-fn shares_above(events: &[u32], j: u32, id: u32) -> usize
-    ensures { result ≤ most_shares }
-{
-    if id < field(events, EVENT_WORDS, j, IDENTIFIER) {
-        return 0;
-    }
-    shares_of(events, j)
-}
-
-// How many event j and those of higher priority ask for.
-fn shares_with(events: &[u32], j: u32) -> usize
-    ensures { result ≤ most_load }
-{
-    let id = field(events, EVENT_WORDS, j, IDENTIFIER);
-    let n = (events.len() / EVENT_WORDS).min(MOST_EVENTS) as u32;
-    let mut total: usize = 0;
-    let mut i: u32 = 0;
-    while i < n {
-        total += shares_above(events, i, id);
-        i += 1;
-    }
-    total
-}
-
-// An event that has no busy period. Its shares are rounded up, and so is their sum, so that the load is at most what is shown.
-pub fn endless(events: &[u32], text: &[u8], j: u32) {
-    begin(events, text, j, IDENTIFIER);
-    paper::say_per_cent(
-        b"with it and the events of higher priority the load is ",
-        (shares_with(events, j) + (HUNDREDTH - 1)) / HUNDREDTH,
-    );
-    paper::say(b", rounded up; the bus must come to rest within 16777216 bit times");
 }

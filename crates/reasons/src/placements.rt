@@ -1,15 +1,14 @@
 // What is wrong with a proposal for a problem that is well formed, or with placements to keep.
-ghost use Rattle.std.specs.Prelude.{◌≡◌, true, ◌<◌, ◌≤◌};
-ghost use Rattle.rules.specs.Problem.{WellFormed, Gives};
-ghost use Rattle.rules.specs.Parts.{Member};
+ghost use Rattle.std.specs.Prelude.{◌<◌, ◌≤◌};
+ghost use Rattle.rules.specs.Problem.{WellFormed};
 
-use super::alone;
+use super::{Call, alone};
 use basics::FILL;
 use broken::name;
-use origin::Subject;
+use origin::{Given, Subject, Word};
 use problem::recast::column_words;
-use reader::answer::Read;
 use rules::{Refusal, placing, words};
+use std::marker::Model;
 use std::rt::Env;
 use wordlist::lines::Shape;
 
@@ -18,87 +17,310 @@ const PAIR: usize = 2;
 
 // ---- all messages
 
-// How many words the placements of so many messages have, which a text has.
-fn word_count(p: &[u32], w: &[u32], plan: &[u8])
-    requires { WellFormed p.now }
-{
-    let messages = words::messages_of(p);
-    paper::say_things(b": ", w.len(), b" word");
-    paper::say_things(b"; ", messages, b" message");
-    if messages == 1 {
-        paper::say(b" needs ");
-    } else {
-        paper::say(b" need ");
-    }
-    paper::say_count(b"", words::proposal_words(p));
-    paper::say(b", column and base row of each");
-    broken::wrong_line(
-        plan,
-        Shape {
-            records: messages,
-            first: PAIR,
-            few: 0,
-            short: PAIR,
-            other: PAIR,
-        },
-    );
+// The words of a well-formed problem, how many of them a text has for a column, and what a call was given.
+// A clause sees them as the words of the problem.
+#[derive(Drop)]
+pub struct Problem<'a> {
+    p: &'a [u32],
+    column: usize,
+    call: Call<'a>,
 }
 
-// How many messages have no kept placement.
-fn free_count(p: &[u32], w: &[u32]) -> usize
-    requires { WellFormed p.now }
-{
-    if w.len() != words::proposal_words(p) {
-        return 0;
-    }
-    let left = rest::free_of(w, words::messages_of(p));
-    left.count
+impl<'a> Model for Problem<'a> {
+    ghost use Rattle.std.specs.Prelude.{List, ℕ};
+    ghost use Rattle.rules.specs.Problem.{WellFormed};
+
+    ghost Value = { List ℕ };
+
+    ghost view = { λ s. s.p.now };
+
+    ghost invariant = { λ s. WellFormed s.p.now };
 }
 
-// More messages than the planner takes: all that there are, or those without a kept placement.
-fn too_many(p: &[u32], w: &[u32], subject: Subject)
-    requires { WellFormed p.now }
-{
-    match subject {
-        Subject::Given => {
-            paper::say_things(b": ", words::messages_of(p), b" message");
-            paper::say(
-                b"; the planner takes at most 16: plan a file with the first 16, then extend it",
-            );
-        }
-        _ => {
-            paper::say_things(b": ", free_count(p, w), b" message");
-            paper::say(b" without a kept placement; the planner takes at most 16");
-        }
+impl<'a> Problem<'a> {
+    // The problem's words.
+    pub fn words(&self) -> &'a [u32]
+        ensures { WellFormed result.now }
+    {
+        self.p
     }
-}
 
-// That there is no plan, or none with what is kept, and which messages have no place even alone.
-fn no_plan(p: &[u32], text: &[u8], size: usize, w: &[u32], subject: Subject)
-    requires { WellFormed p.now × (size ≤ 3) }
-{
-    let mut taken = [0u32; words::MOST_ROWS];
-    match subject {
-        Subject::Given => paper::say(b": no plan exists"),
-        _ => {
-            proposal::kept_fault(p, w, &mut taken);
-            paper::say(b": no plan exists that keeps the kept placements");
+    // The words of the placements.
+    pub fn placements(&self) -> &'a [u32] {
+        self.call.words
+    }
+
+    // Says the line of the problem's text that has message j.
+    pub fn line_of(&self, j: usize)
+        requires { j < 64 }
+    {
+        origin::place(
+            Word::Message(j as u32, words::IDENTIFIER),
+            words::columns_of(self.p) as u32,
+            Given::Text(self.call.text, self.column),
+        );
+    }
+
+    // How many words the placements have, which a text has.
+    fn say_count(&self) {
+        let messages = words::messages_of(self.p);
+        paper::say_things(b": ", self.call.words.len(), b" word");
+        paper::say_things(b"; ", messages, b" message");
+        if messages == 1 {
+            paper::say(b" needs ");
+        } else {
+            paper::say(b" need ");
+        }
+        paper::say_count(b"", words::proposal_words(self.p));
+        paper::say(b", column and base row of each");
+        broken::wrong_line(
+            self.call.plan,
+            Shape {
+                records: messages,
+                first: PAIR,
+                few: 0,
+                short: PAIR,
+                other: PAIR,
+            },
+        );
+    }
+
+    // How many messages have no kept placement. A list of another length is refused for that before.
+    fn free_count(&self) -> usize {
+        if self.call.words.len() != words::proposal_words(self.p) {
+            return 0;
+        }
+        rest::free_count(self.call.words, words::messages_of(self.p))
+    }
+
+    // More messages than the planner takes: all that there are, or those without a kept placement.
+    fn say_many(&self) {
+        match self.call.subject {
+            Subject::Given => {
+                paper::say_things(b": ", words::messages_of(self.p), b" message");
+                paper::say(
+                    b"; the planner takes at most 16: plan a file with the first 16, then extend it",
+                );
+            }
+            _ => {
+                paper::say_things(b": ", self.free_count(), b" message");
+                paper::say(b" without a kept placement; the planner takes at most 16");
+            }
         }
     }
-    alone::show(p, text, size, w, &taken);
+
+    // That there is no plan, or none with what is kept, and which messages have no place even alone.
+    fn say_no_plan(&self) {
+        let mut taken = [0u32; words::MOST_ROWS];
+        match self.call.subject {
+            Subject::Given => paper::say(b": no plan exists"),
+            _ => {
+                let _ = proposal::kept_fault(self.p, self.call.words, &mut taken);
+                paper::say(b": no plan exists that keeps the kept placements");
+            }
+        }
+        alone::show(self, &taken);
+    }
+
+    // Message j and its placement, if there are both.
+    fn sent<'b>(&'b self, j: u32) -> Option<Sent<'b>> {
+        let j = j as usize;
+        if j < words::messages_of(self.p) && words::gives(self.call.words, j) {
+            Some(Sent {
+                problem: self,
+                p: self.p,
+                w: self.call.words,
+                j,
+            })
+        } else {
+            None
+        }
+    }
+
+    // What is wrong with message j, if there is one.
+    fn one(&self, q: Refusal, j: u32) {
+        if let Some(sent) = self.sent(j) {
+            sent.own(q);
+        }
+    }
+
+    // Where messages j and i meet, if there are both.
+    fn two(&self, j: u32, i: u32) {
+        if let Some(later) = self.sent(j) {
+            if let Some(earlier) = self.sent(i) {
+                later.meets(&earlier);
+            }
+        }
+    }
+
+    // What is wrong with the placements.
+    fn of_plan(&self, rt: &impl Env, q: Refusal) {
+        origin::named(rt, b", ", self.call.subject.plan_at());
+        match q {
+            Refusal::ProposalLength => self.say_count(),
+            Refusal::Range(j) | Refusal::Width(j) | Refusal::Late(j) => self.one(q, j),
+            Refusal::Meeting(j, i) => self.two(j, i),
+            _ => {}
+        }
+    }
+
+    // What is wrong with the placements, or with the problem for the planner.
+    fn explain(&self, rt: &impl Env, q: Refusal) {
+        match q {
+            Refusal::NoPlan => {
+                origin::named(rt, b", ", self.call.subject.problem_at());
+                self.say_no_plan();
+            }
+            Refusal::TooMany => {
+                origin::named(rt, b", ", self.call.subject.problem_at());
+                origin::line(self.call.text, words::MESSAGES);
+                self.say_many();
+            }
+            _ => self.of_plan(rt, q),
+        }
+    }
 }
 
 // ---- one message
 
-// A message of a problem, by its name.
-fn message(p: &[u32], j: usize, subject: Subject)
-    requires { Member p.now j }
-{
-    match subject {
-        Subject::Kept | Subject::Carried => name(b"kept message ", j, words::identifier_of(p, j)),
-        _ => name(b"message ", j, words::identifier_of(p, j)),
+// Message j of a problem, and its placement. A clause sees it as its number.
+#[derive(Drop)]
+struct Sent<'a> {
+    problem: &'a Problem<'a>,
+    p: &'a [u32],
+    w: &'a [u32],
+    j: usize,
+}
+
+impl<'a> Model for Sent<'a> {
+    ghost use Rattle.std.specs.Prelude.{ℕ};
+    ghost use Rattle.rules.specs.Problem.{Gives};
+    ghost use Rattle.rules.specs.Parts.{Member};
+
+    ghost Value = { ℕ };
+
+    ghost view = { λ s. s.j };
+
+    ghost invariant = { λ s. Member s.p.now s.j × Gives s.w.now s.j };
+}
+
+impl<'a> Sent<'a> {
+    // Its column and its base row.
+    fn column(&self) -> usize {
+        words::column_of(self.w, self.j)
+    }
+
+    fn row(&self) -> usize {
+        words::row_of(self.w, self.j)
+    }
+
+    // Says its name.
+    fn say_name(&self) {
+        let problem = self.problem;
+        let identifier = words::identifier_of(self.p, self.j);
+        match problem.call.subject {
+            Subject::Kept | Subject::Carried => name(b"kept message ", self.j, identifier),
+            _ => name(b"message ", self.j, identifier),
+        }
+    }
+
+    // Says where its column or its base row stands: its line in a plan, or that of the message where the placement was carried over from an old plan.
+    fn place(&self, word: usize)
+        requires { word < 2 }
+    {
+        let problem = self.problem;
+        match problem.call.subject {
+            Subject::Carried => problem.line_of(self.j),
+            _ => origin::line(problem.call.plan, PAIR * self.j + word),
+        }
+    }
+
+    // Whether the problem does not have its column.
+    fn is_outside(&self) -> bool {
+        words::columns_of(self.p) <= self.column()
+    }
+
+    // A column or a base row that it cannot have.
+    fn out_of_range(&self) {
+        if self.is_outside() {
+            range(b": column ", self.column(), words::columns_of(self.p) - 1);
+        } else {
+            range(
+                b": base row ",
+                self.row(),
+                words::repeat_of(self.p, self.j) - 1,
+            );
+        }
+    }
+
+    // A frame that is longer than its column is wide.
+    fn width(&self) {
+        let c = self.column();
+        if c < words::columns_of(self.p) {
+            let frame = words::frame_of(self.p, self.j);
+            paper::say_count(b": column ", c);
+            paper::say_count(b" is ", words::width_of(self.p, c));
+            paper::say_count(b" wide, and its frame takes ", frame);
+            paper::say(b"; wide enough:");
+            wide_columns(self.p, frame);
+        }
+    }
+
+    // A send that ends after its deadline.
+    fn late(&self) {
+        let c = self.column();
+        let r = self.row();
+        if c < words::columns_of(self.p) && r < words::repeat_of(self.p, self.j) {
+            paper::say_count(b": in column ", c);
+            paper::say_count(b", base row ", r);
+            times(
+                placing::wait_of(self.p, self.j, c, r),
+                words::frame_of(self.p, self.j),
+                words::deadline_of(self.p, self.j),
+            );
+        }
+    }
+
+    // What is wrong with it by itself. The base row is wrong where the column is right.
+    fn own(&self, q: Refusal) {
+        match q {
+            Refusal::Range(_) if !self.is_outside() => self.place(1),
+            _ => self.place(0),
+        }
+        paper::say(b", ");
+        self.say_name();
+        match q {
+            Refusal::Range(_) => self.out_of_range(),
+            Refusal::Width(_) => self.width(),
+            _ => self.late(),
+        }
+    }
+
+    // ---- two messages
+
+    // The first row in which it and a message that it meets are both sent: the base row of the one that is sent less often.
+    fn common_row(&self, other: &Sent) -> usize {
+        if words::repeat_of(other.p, other.j) <= words::repeat_of(self.p, self.j) {
+            self.row()
+        } else {
+            other.row()
+        }
+    }
+
+    // It and the earlier one that it meets, and where.
+    fn meets(&self, earlier: &Sent) {
+        self.place(0);
+        paper::say(b", ");
+        self.say_name();
+        paper::say(b" meets ");
+        earlier.say_name();
+        earlier.place(0);
+        paper::say_count(b", in column ", self.column());
+        paper::say_count(b", row ", self.common_row(earlier));
     }
 }
+
+// ---- sentences
 
 // A column or a base row by its name, which must be in a range.
 fn range(rule: &[u8], n: usize, most: usize) {
@@ -111,75 +333,20 @@ fn range(rule: &[u8], n: usize, most: usize) {
     paper::say_count(b"; it must be 0 to ", most);
 }
 
-// Says where a placement of message j stands: its line in a plan, or that of the message where the placement was carried over from an old plan.
-fn place(p: &[u32], text: &[u8], size: usize, plan: &[u8], j: usize, word: usize, subject: Subject)
-    requires { Member p.now j × (size ≤ 3) × (word < 2) }
-{
-    match subject {
-        Subject::Carried => origin::message_line(p, text, size, j),
-        _ => origin::line(plan, PAIR * j + word),
-    }
-}
-
-// Whether message j has a column that the problem does not have.
-fn is_outside(p: &[u32], w: &[u32], j: usize) -> bool
-    requires { Member p.now j × Gives w.now j }
-{
-    words::columns_of(p) <= words::column_of(w, j)
-}
-
-// A column or a base row that message j cannot have.
-fn out_of_range(p: &[u32], w: &[u32], j: usize)
-    requires { Member p.now j × Gives w.now j }
-{
-    if is_outside(p, w, j) {
-        range(
-            b": column ",
-            words::column_of(w, j),
-            words::columns_of(p) - 1,
-        );
-    } else {
-        range(
-            b": base row ",
-            words::row_of(w, j),
-            words::repeat_of(p, j) - 1,
-        );
-    }
-}
-
 // The columns that are as wide as a frame.
 fn wide_columns(p: &[u32], frame: usize)
     requires { WellFormed p.now }
 {
-    let columns = words::columns_of(p);
     let mut is_any = false;
-    let mut c: usize = 0;
-    while c < columns {
+    for c in 0..words::columns_of(p) {
         if frame <= words::width_of(p, c) {
             paper::say_count(b" ", c);
             is_any = true;
         }
-        c += 1;
     }
     if !is_any {
         paper::say(b" none");
     }
-}
-
-// A frame that is longer than the column of message j is wide.
-fn width(p: &[u32], w: &[u32], j: usize)
-    requires { Member p.now j × Gives w.now j }
-{
-    let c = words::column_of(w, j);
-    if words::columns_of(p) <= c {
-        return;
-    }
-    let frame = words::frame_of(p, j);
-    paper::say_count(b": column ", c);
-    paper::say_count(b" is ", words::width_of(p, c));
-    paper::say_count(b" wide, and its frame takes ", frame);
-    paper::say(b"; wide enough:");
-    wide_columns(p, frame);
 }
 
 // What a send waits and takes, and how much later than its deadline it ends.
@@ -196,223 +363,17 @@ fn times(wait: usize, frame: usize, deadline: usize)
     }
 }
 
-// A send of message j that ends after its deadline.
-fn late(p: &[u32], w: &[u32], j: usize)
-    requires { Member p.now j × Gives w.now j }
-{
-    let c = words::column_of(w, j);
-    let r = words::row_of(w, j);
-    if words::columns_of(p) <= c {
-        return;
-    }
-    if words::repeat_of(p, j) <= r {
-        return;
-    }
-    let wait = placing::wait_of(p, j, c, r);
-    let frame = words::frame_of(p, j);
-    let deadline = words::deadline_of(p, j);
-    paper::say_count(b": in column ", c);
-    paper::say_count(b", base row ", r);
-    times(wait, frame, deadline);
-}
-
-// Whether j is a message of the problem and the proposal has its words.
-fn is_given(p: &[u32], w: &[u32], j: usize) -> bool
-    requires { WellFormed p.now }
-    ensures { result ≡ true → Member p.now j × Gives w.now j }
-{
-    if words::messages_of(p) <= j {
-        return false;
-    }
-    words::gives(w, j)
-}
-
-// Which word of a placement is wrong: the base row where the column is right, else the column.
-fn wrong_word(q: Refusal, p: &[u32], w: &[u32], j: usize) -> usize
-    requires { Member p.now j × Gives w.now j }
-    ensures { result < 2 }
-{
-    match q {
-        Refusal::Range(_) => {
-            if is_outside(p, w, j) {
-                return 0;
-            }
-            1
-        }
-        _ => 0,
-    }
-}
-
-// What is wrong with message j by itself.
-fn own(
-    q: Refusal,
-    p: &[u32],
-    text: &[u8],
-    size: usize,
-    w: &[u32],
-    plan: &[u8],
-    j: usize,
-    subject: Subject,
-)
-    requires { Member p.now j × Gives w.now j × (size ≤ 3) }
-{
-    place(p, text, size, plan, j, wrong_word(q, p, w, j), subject);
-    paper::say(b", ");
-    message(p, j, subject);
-    match q {
-        Refusal::Range(_) => out_of_range(p, w, j),
-        Refusal::Width(_) => width(p, w, j),
-        _ => late(p, w, j),
-    }
-}
-
-// ---- two messages
-
-// The first row in which both of two messages that meet are sent: the base row of the one that is sent less often.
-fn common_row(p: &[u32], w: &[u32], i: usize, j: usize) -> usize
-    requires member { Member p.now i × Member p.now j }
-    requires gives { Gives w.now i × Gives w.now j }
-{
-    if words::repeat_of(p, i) <= words::repeat_of(p, j) {
-        return words::row_of(w, j);
-    }
-    words::row_of(w, i)
-}
-
-// Message j and the earlier one that it meets, and where.
-fn meeting(
-    p: &[u32],
-    text: &[u8],
-    size: usize,
-    w: &[u32],
-    plan: &[u8],
-    j: usize,
-    i: usize,
-    subject: Subject,
-)
-    requires member { Member p.now i × Member p.now j × (size ≤ 3) }
-    requires gives { Gives w.now i × Gives w.now j }
-{
-    let row = common_row(p, w, i, j);
-    let column = words::column_of(w, j);
-    place(p, text, size, plan, j, 0, subject);
-    paper::say(b", ");
-    message(p, j, subject);
-    paper::say(b" meets ");
-    message(p, i, subject);
-    place(p, text, size, plan, i, 0, subject);
-    paper::say_count(b", in column ", column);
-    paper::say_count(b", row ", row);
-}
-
 // ---- all of them
 
-// What is wrong with message j, if there is one.
-fn one(
-    q: Refusal,
-    p: &[u32],
-    text: &[u8],
-    size: usize,
-    w: &[u32],
-    plan: &[u8],
-    j: usize,
-    subject: Subject,
-)
-    requires { WellFormed p.now × (size ≤ 3) }
-{
-    if is_given(p, w, j) {
-        own(q, p, text, size, w, plan, j, subject);
-    }
-}
-
-// Where messages j and i meet, if there are both.
-fn two(
-    p: &[u32],
-    text: &[u8],
-    size: usize,
-    w: &[u32],
-    plan: &[u8],
-    j: usize,
-    i: usize,
-    subject: Subject,
-)
-    requires { WellFormed p.now × (size ≤ 3) }
-{
-    if is_given(p, w, j) {
-        if is_given(p, w, i) {
-            meeting(p, text, size, w, plan, j, i, subject);
-        }
-    }
-}
-
-// What is wrong with placements for a well-formed problem.
-fn of_plan(
-    rt: &impl Env,
-    q: Refusal,
-    p: &[u32],
-    text: &[u8],
-    size: usize,
-    w: &[u32],
-    plan: &[u8],
-    subject: Subject,
-)
-    requires { WellFormed p.now × (size ≤ 3) }
-{
-    origin::named(rt, b", ", origin::plan_at(subject));
-    match q {
-        Refusal::ProposalLength => word_count(p, w, plan),
-        Refusal::Range(j) => one(q, p, text, size, w, plan, j as usize, subject),
-        Refusal::Width(j) => one(q, p, text, size, w, plan, j as usize, subject),
-        Refusal::Late(j) => one(q, p, text, size, w, plan, j as usize, subject),
-        Refusal::Meeting(j, i) => two(p, text, size, w, plan, j as usize, i as usize, subject),
-        _ => {}
-    }
-}
-
-// What is wrong with placements for a well-formed problem, or with the problem for the planner.
-fn of_problem(
-    rt: &impl Env,
-    q: Refusal,
-    p: &[u32],
-    text: &[u8],
-    size: usize,
-    w: &[u32],
-    plan: &[u8],
-    subject: Subject,
-)
-    requires { WellFormed p.now × (size ≤ 3) }
-{
-    match q {
-        Refusal::NoPlan => {
-            origin::named(rt, b", ", origin::problem_at(subject));
-            no_plan(p, text, size, w, subject);
-        }
-        Refusal::TooMany => {
-            origin::named(rt, b", ", origin::problem_at(subject));
-            origin::line(text, words::MESSAGES);
-            too_many(p, w, subject);
-        }
-        _ => of_plan(rt, q, p, text, size, w, plan, subject),
-    }
-}
-
 // What is wrong with placements for a problem file.
-pub fn of_file(
-    rt: &impl Env,
-    q: Refusal,
-    file: &[u8],
-    text: &[u8],
-    w: &[u32],
-    plan: &[u8],
-    subject: Subject,
-) {
-    if file.len() < problem::HEAD_BYTES {
-        return;
-    }
-    let size = column_words(reader::layout_in(file));
+pub fn of_file(rt: &impl Env, q: Refusal, call: Call) {
     let mut words = [FILL; words::MOST_WORDS];
-    let got = reader::decode(file, &mut words);
-    if let Read::Problem(n) = got {
-        of_problem(rt, q, &words[..n], text, size, w, plan, subject);
+    if let Ok(n) = reader::decode(call.file, &mut words) {
+        let problem = Problem {
+            p: &words[..n],
+            column: column_words(reader::layout_in(call.file)),
+            call,
+        };
+        problem.explain(rt, q);
     }
 }

@@ -1,12 +1,12 @@
 -- The words that the call writes are the lists, as many as its rule says, and its answer is what it promises.
-use Prim.Native.Nat.{ℕ, ◌+◌, ◌*◌, ◌<◌, ◌≤◌}
+use Prim.Native.Nat.{ℕ, ◌+◌, ◌*◌, ◌≤◌}
 use mathlib.Core.Path.{◌≡◌, refl, sym, ap, ap₂, ◌∙◌}
 use mathlib.Core.List.{List, [], ◌∷◌, ◌++◌}
 use native.Mathlib.Omega.{arith}
 use borrow.Author.Tests.{ltb-false}
 use lib.Dec.{ltb}
 use lib.ListN.{length, take, drop, length-append}
-use lib.Seq.{length-take-le}
+use Rattle.std.specs.Prelude.{Ok, Err, IsErrAnd}
 use Rattle.basics.specs.Runs.{Put}
 use Rattle.basics.specs.Sums.{sum}
 use Rattle.basics.proofs.Runs.{run-same, length_run}
@@ -28,7 +28,6 @@ use Rattle.triggers.proofs.Determined.{lists-one}
 use Rattle.triggers.proofs.NodeLists.{list-for, length-for}
 use Rattle.triggers.proofs.Results.{lists-refused}
 use Rattle.triggers.proofs.Written.{length-entries}
-use Rattle.std.specs.Prelude.{Ok, Err, IsErrAnd}
 
 -- no well-formed problem has lists of more words
 pub size-most : {p : List ℕ} → WellFormed p → size p ≤ most_words
@@ -77,9 +76,6 @@ module _ {p w : List ℕ} (a : Accepted p w) where
   module _ {m : ℕ} {o : List ℕ} (em : m ≡ messages p) (h : Ordered p w (messages p) o) where
     pub order_is : take m o ≡ order p w
     order_is = rw em h.front
-
-    pub order-long : m ≡ length (take m o)
-    order-long = sym (length-take-le m o (omega (arith, a.formed.header.messages-most, h.long)))
 
     pub whole_is : all_words p w ≡ counts_of p ++ lists_from p w (take m o)
     whole_is = ap (λ (t : List ℕ). counts_of p ++ lists_from p w t) (sym order_is)

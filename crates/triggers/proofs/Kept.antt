@@ -6,6 +6,7 @@ use mathlib.Core.List.{List, [], ◌∷◌, ◌++◌, append_assoc, map, flatten
 use native.Mathlib.Omega.{arith}
 use lib.ListN.{length, get_or, take, drop, length-append, get_or-append}
 use lib.Seq.{take_at, drop_at}
+use Rattle.std.specs.Prelude.{Ok}
 use Rattle.basics.specs.Rising.{Rising, none, next, InOrder}
 use Rattle.basics.specs.Runs.{run}
 use Rattle.basics.specs.Sums.{sum}
@@ -21,7 +22,6 @@ use Rattle.triggers.specs.Lists.{Entered, entry_words, entry, Before, by-mark, b
 use Rattle.triggers.specs.Promise.{Listing}
 use Rattle.triggers.specs.Same.{SameTo, SameFor, count_in, list_in}
 use Rattle.triggers.proofs.Written.{length-entries}
-use Rattle.std.specs.Prelude.{Ok}
 
 -- ---- the order of entries by their words alone: by mark, then by row
 data Earlier (x y : List ℕ) : Type 0 where

@@ -2,29 +2,25 @@
 use Prim.Native.Nat.{ℕ}
 use mathlib.Core.Path.{◌≡◌, refl, subst}
 use mathlib.Core.List.{List, []}
-use lib.ListN.{length, take}
+use lib.ListN.{length}
+use Rattle.std.specs.Prelude.{Ok, Err, IsErrAnd}
 use Rattle.rules.specs.declared.Refusal.{Refusal}
 use Rattle.rules.specs.Paper.{Answers, Answer}
 use Rattle.rules.proofs.Faults.{bad-not-clear, handed}
 use Rattle.rules.proofs.Told.{answers-refused, answers_one}
-use Rattle.proposal.specs.Accept.{Admitted}
+use Rattle.rules.specs.Refusal.{Fault}
 use Rattle.proposal.specs.Accepted.{check_fault}
 use Rattle.proposal.proofs.Accepting.{admitted-length}
-use Rattle.triggers.specs.Promise.{ListsAnswered, ListingAccepted, lists_fault, Listing}
+use Rattle.triggers.specs.Promise.{ListsAnswered, lists_fault, Listing}
 use Rattle.triggers.proofs.Determined.{lists-one}
-use Rattle.std.specs.Prelude.{Ok, Err, IsErrAnd}
-use Rattle.rules.specs.Refusal.{Fault}
 
 -- ---- the answers, in their order
 pub lists-refused : {fault : Fault} {p w d : List ℕ} (q : Refusal) → fault ≡ Err q → ListsAnswered fault p w d d (Err q)
 lists-refused q h = record { lists = []; lists-are = λ e. bad-not-clear e h; answers = answers-refused q h }
 
--- a refusal of the file or of the proposal that is handed on, and what is left where it is admitted
+-- a refusal of the file or of the proposal that is handed on
 pub listing-refused : (f w d : List ℕ) (r : Answer) {q : Refusal} → check_fault f w ≡ Err q → IsErrAnd r (λ u. u ≡ q) → Listing f w d d r
 listing-refused f w d r {q} h e = rw (handed e) (lists-refused q (rw h))
-
-pub listing-accepted : (f w d : List ℕ) {b : List ℕ} {n : ℕ} {e : List ℕ} {r : Answer} → Admitted f w b n → ListingAccepted (take n b) w d e r → Listing f w d e r
-listing-accepted f w d a h = rw (a.clear, ← a.front) h
 
 pub ruleset listed = (listing-refused, admitted-length)
 

@@ -5,8 +5,7 @@ use mathlib.Core.List.{List, [], ◌∷◌, ◌++◌, append-nil, append_assoc}
 use native.Mathlib.Numerals.{add-one}
 use native.Mathlib.Omega.{arith}
 use lib.ListN.{length, get_or, take, drop, length-append, take-append-drop}
-use lib.Seq.{take-suc, take_all}
-use Rattle.basics.specs.Runs.{Put}
+use lib.Seq.{take-suc}
 use Rattle.basics.proofs.Written.{Begins, begins, begins-none}
 use Rattle.rules.specs.Problem.{ref_id}
 use Rattle.rules.specs.Sends.{Source, reference}
@@ -49,9 +48,6 @@ module _ (p w : List ℕ) (n : ℕ) where
     front-room i h =
         let e = ap length (ap (λ (t : List ℕ). message_entries p w t n) (sym (take-append-drop i o)) ∙ parts (take i o) (drop i o)) in
         omega (arith, simp length-append at e)
-
-    pub front-all : (i : ℕ) {d l : List ℕ} {at : ℕ} → i ≡ length o → Begins (front o i) d l at → Put (message_entries p w o n) d l at
-    front-all i e h = rw (take_all i o (omega arith)) at h.put
 
   -- the reference's entry comes first
   module _ (l : List Source) (d : List ℕ) (room : length (entries p w n (reference ∷ l)) ≤ length d) where

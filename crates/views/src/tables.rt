@@ -1,5 +1,5 @@
 // The other tables: the problem, the losses, the trigger lists and the response times; and words as a text that can be read back.
-ghost use Rattle.std.specs.Prelude.{◌+◌, ◌*◌, ◌<◌, ◌≤◌, length};
+ghost use Rattle.std.specs.Prelude.{◌<◌, ◌≤◌, length};
 ghost use Rattle.rules.specs.Problem.{WellFormed, nodes};
 ghost use Rattle.triggers.specs.Lists.{entry_words};
 ghost use Rattle.response.specs.Events.{event_words, most_events};
@@ -38,13 +38,10 @@ pub fn header(p: &[u32], version: u32)
 
 // The nodes of a receiver mask.
 fn receivers(mask: u32) {
-    let mut n: u32 = 0;
-    while n < words::NODES {
+    for n in 0..words::NODES {
         if basics::has_bit(mask, n) {
-            paper::text(b" ");
-            paper::count(n);
+            paper::text_count(b" ", n);
         }
-        n += 1;
     }
 }
 
@@ -68,26 +65,24 @@ fn message(p: &[u32], j: usize)
 pub fn messages(p: &[u32])
     requires { WellFormed p.now }
 {
-    let count = words::messages_of(p);
     paper::line(b"\nmessage     id  from bytes   period   offset deadline   to nodes");
-    let mut j: usize = 0;
-    while j < count {
+    for j in 0..words::messages_of(p) {
         message(p, j);
-        j += 1;
     }
 }
 
 // ---- words that can be read back
 
-// A line for each so many words, of which so many are shown, one of them as an identifier.
-fn lines(w: &[u32], size: usize, shown: usize, identifier: usize)
-    requires { (1 ≤ size) × (size ≤ 7) × (shown ≤ size) }
+// A line for each so many words, of which so many are shown, one of them perhaps as an identifier.
+fn lines(w: &[u32], size: usize, shown: usize, identifier: Option<usize>)
+    requires { (1 ≤ size) × (shown ≤ size) }
 {
-    let mut at: usize = 0;
-    while at + size <= w.len() {
-        paper::record(&w[at..at + shown], identifier);
+    for line in w.chunks_exact(size) {
+        match identifier {
+            Some(i) => paper::record(&line[..shown], i),
+            None => paper::words(&line[..shown]),
+        }
         paper::end_line();
-        at += size;
     }
 }
 
@@ -110,21 +105,21 @@ pub fn problem_words(p: &[u32], said: usize)
         &p[..words::HEADER_WORDS],
         words::HEADER_WORDS,
         words::HEADER_WORDS,
-        words::REF_ID,
+        Some(words::REF_ID),
     );
     column_heading(said);
     lines(
         &p[words::HEADER_WORDS..middle],
         words::COLUMN_WORDS,
         said,
-        said,
+        None,
     );
     paper::line(b"# messages: identifier, sender, bytes, receivers, period, offset, deadline");
     lines(
         &p[middle..],
         words::MESSAGE_WORDS,
         words::MESSAGE_WORDS,
-        words::IDENTIFIER,
+        Some(words::IDENTIFIER),
     );
 }
 
@@ -146,24 +141,14 @@ fn placement(p: &[u32], w: &[u32], j: usize)
 pub fn proposal_words(p: &[u32], w: &[u32], mark: u32)
     requires { WellFormed p.now }
 {
-    let messages = words::messages_of(p);
     paper::text_mark(b"# problem ", mark);
     paper::line(b"\n# column and base row of each message");
-    let mut j: usize = 0;
-    while j < messages {
+    for j in 0..words::messages_of(p) {
         placement(p, w, j);
-        j += 1;
     }
 }
 
 // ---- losses
-
-// How many hundredths of a per cent a figure is of the whole, to the nearest, a half up: twice as many and one, halved.
-fn share(figure: u32, whole: usize) -> usize
-    requires { 1 ≤ whole }
-{
-    (2 * figure as usize * paper::ALL / whole + 1) / 2
-}
 
 // One figure, by its name, and its share of the whole.
 fn loss(name: &[u8], figure: u32, whole: usize)
@@ -171,7 +156,7 @@ fn loss(name: &[u8], figure: u32, whole: usize)
 {
     paper::left_text(name, 12);
     paper::right_count(figure, 9);
-    paper::right_per_cent(share(figure, whole), 6);
+    paper::right_per_cent(margins::share(figure as usize, whole), 6);
     paper::end_line();
 }
 
@@ -179,7 +164,7 @@ fn loss(name: &[u8], figure: u32, whole: usize)
 pub fn bus_time(t: BusTime)
     requires { 1 ≤ t.reference }
 {
-    let whole = t.reference as usize + t.used as usize + t.in_window as usize + t.empty as usize + t.gaps as usize;
+    let whole = margins::whole_of(t);
     paper::text_count(b"losses over one matrix cycle of ", whole);
     paper::end_line();
     loss(b"reference", t.reference, whole);
@@ -216,11 +201,8 @@ pub fn events(e: &[u32])
 {
     paper::line(b"The longest response, which instance has it (from 0), and the busy period");
     paper::line(b"    id bytes   period   jitter deadline  response instance      busy");
-    let mut i: usize = 0;
-    while i < e.len() / EVENT_WORDS {
-        let from = EVENT_WORDS * i;
-        event(&e[from..from + EVENT_WORDS], response::worst_of(e, i));
-        i += 1;
+    for (i, one) in e.chunks_exact(EVENT_WORDS).enumerate() {
+        event(one, response::worst_of(e, i));
     }
 }
 
@@ -233,84 +215,51 @@ fn entry(e: &[u32])
     paper::right_count(e[1], 6);
     paper::right_count(e[2], 5);
     paper::right_count(e[3], 7);
-    let kind = e[0] / KIND_WEIGHT;
-    if kind == 0 {
-        paper::text(b"  reference ");
-    } else if kind == 1 {
-        paper::text(b"  sends     ");
-    } else {
-        paper::text(b"  receives  ");
-    }
+    // The kind is a number, as the C interface hands it over in the words of a list.
+    paper::text(match e[0] / KIND_WEIGHT {
+        0 => b"  reference ",
+        1 => b"  sends     ",
+        _ => b"  receives  ",
+    });
     paper::right_hex((e[0] % KIND_WEIGHT) as usize, 0);
     paper::end_line();
 }
 
-// Where a list ends that begins at a place: behind so many entries of four words, or with the lists.
-pub fn list_end(lists: &[u32], at: usize, entries: u32) -> usize
-    requires { at ≤ length lists.now }
-    ensures { (at ≤ result) × (result ≤ length lists.now) }
-{
-    let size = ENTRY_WORDS * entries as usize;
-    if lists.len() - at < size {
-        return lists.len();
-    }
-    at + size
+// The first so many entries, and what is behind them; where there are fewer, what there is.
+fn split(list: &[u32], entries: u32) -> (&[u32], &[u32]) {
+    list.split_at((ENTRY_WORDS * entries as usize).min(list.len()))
 }
 
-// Where the list of a node begins: behind the 16 counts and the lists before it.
-pub fn list_start(lists: &[u32], node: usize) -> usize
+// The list of a node: behind the 16 counts and the lists before it.
+pub(crate) fn list_of(lists: &[u32], node: usize) -> &[u32]
     requires { (nodes ≤ length lists.now) × (node < nodes) }
-    ensures { result ≤ length lists.now }
 {
-    let mut at: usize = NODES;
-    let mut n: usize = 0;
-    while n < node {
-        at = list_end(lists, at, lists[n]);
-        n += 1;
+    let mut rest = &lists[NODES..];
+    for entries in &lists[..node] {
+        rest = split(rest, *entries).1;
     }
-    at
-}
-
-// The entries of one list.
-fn entries(list: &[u32]) {
-    let mut i: usize = 0;
-    while i < list.len() / ENTRY_WORDS {
-        let from = ENTRY_WORDS * i;
-        entry(&list[from..from + ENTRY_WORDS]);
-        i += 1;
-    }
+    split(rest, lists[node]).0
 }
 
 // The list of one node.
 fn list(lists: &[u32], n: usize)
     requires { (nodes ≤ length lists.now) × (n < nodes) }
 {
-    let count = lists[n];
-    let from = list_start(lists, n);
-    let to = list_end(lists, from, count);
-    paper::text(b"node ");
-    paper::count(n);
-    paper::text(b", triggers: ");
-    paper::count(count);
+    paper::text_count(b"node ", n);
+    paper::text_count(b", triggers: ", lists[n]);
     paper::line(b"\n  mark  row repeat  what");
-    entries(&lists[from..to]);
-}
-
-// The lists of all nodes.
-fn all_lists(lists: &[u32; triggers::MOST_WORDS]) {
-    let mut n: usize = 0;
-    while n < NODES {
-        list(lists, n);
-        paper::end_line();
-        n += 1;
+    for e in list_of(lists, n).chunks_exact(ENTRY_WORDS) {
+        entry(e);
     }
 }
 
-// The list of one node, or of all if there is no such node.
-pub fn lists(lists: &[u32; triggers::MOST_WORDS], node: usize) {
-    if node < NODES {
-        list(lists, node);
-    } else {
-        all_lists(lists);
+// The list of one node, or of all if none is given or there is no such node.
+pub fn lists(lists: &[u32; triggers::MOST_WORDS], node: Option<usize>) {
+    match node {
+        Some(n) if n < NODES => list(lists, n),
+        _ => for n in 0..NODES {
+            list(lists, n);
+            paper::end_line();
+        },
     }
 }

@@ -11,8 +11,8 @@ column_of-requires c = omega (arith, words c.requires.accepted)
 pub row_of-requires : goal.row_of-requires
 row_of-requires c = omega (arith, words c.requires.accepted)
 
-pub mark-requires-clause-c_lt_most_columns : goal.mark-requires-clause-c_lt_most_columns
-mark-requires-clause-c_lt_most_columns c =
+pub mark-requires : goal.mark-requires
+mark-requires c =
     let placed = (at c.requires.accepted c.loop-j.j (omega arith)).placed in
     let most = c.requires.accepted.formed.header.columns-most in
     (omega arith, omega arith, omega arith, omega arith, omega arith)

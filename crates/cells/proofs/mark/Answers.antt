@@ -12,5 +12,5 @@ pub returns-2 : goal.returns-2
 returns-2 c =
     let marked = c.loop-i.invariant in
     striding-all _ _ (cells-apart _)
-    (striding-more _ _ (cells-apart _) marked (omega arith) (omega arith) c.cell_of.ensures.0 (omega (arith, marked.long, c.requires.table_len)) refl refl)
+    (striding-more _ _ (cells-apart _) marked (omega arith) (omega arith) c.cell_of.ensures.0 (omega (arith, marked.long)) refl refl)
     (omega arith) (omega arith)

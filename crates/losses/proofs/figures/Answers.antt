@@ -1,7 +1,7 @@
 -- The table of cells starts empty and is filled; its tally has three of the figures. 64 rows of 32 widths are below 2^27, so all fit 32 bits.
 use Rattle.std.proofs.Common.{◌*◌, arith, ap₂}
-use Rattle.losses.specs.Parts.{used-part, window-part, empty-part}
 use Rattle.cells.proofs.Marks.{table_none}
+use Rattle.losses.specs.Parts.{used-part, window-part, empty-part}
 use Rattle.losses.proofs.Tallies.{table_fits, tally-small, tally-is}
 use Rattle.losses.proofs.figures.Goals as goal
 

@@ -24,24 +24,25 @@ loop-c-preserved t c =
     turn-end (λ w W. (stands W.stands _ below).row_below) (omega (arith, c.step-step.ensures.often.is)) c.loop-r.invariant
 
 pub search-requires : goal.search-requires
-search-requires t c =
-    let few = c.messages-count.ensures.few in
-    let place = tried few c.messages-count.ensures.is c.if-count-at.false (omega arith) c.put.ensures c.unplaced-rest.ensures c.beside.ensures.beside in
-    (omega (arith, c.decreases, c.messages-count.ensures.is), begun-next c.table_at.ensures.0 c.has_bit.ensures c.if-has_bit.true place (omega (arith, c.step-step.ensures.often.is)) c.requires)
+search-requires t c = (
+  omega (arith, c.decreases, c.messages-count.ensures.is),
+  begun-next c.table_at.ensures.0 c.has_bit.ensures c.if-has_bit.true
+      (tried c.messages-count.ensures.few c.messages-count.ensures.is c.if-count-at.false (omega arith) c.put.ensures c.unplaced-rest.ensures c.beside.ensures.beside)
+      (omega (arith, c.step-step.ensures.often.is))
+      c.requires,
+)
 
 pub returns-in-Some-search : goal.returns-in-Some-search
 returns-in-Some-search t c =
-    let few = c.messages-count.ensures.few in
-    let place = tried few c.messages-count.ensures.is c.if-count-at.false (omega arith) c.put.ensures c.unplaced-rest.ensures c.beside.ensures.beside in
+    let place = tried c.messages-count.ensures.few c.messages-count.ensures.is c.if-count-at.false (omega arith) c.put.ensures c.unplaced-rest.ensures c.beside.ensures.beside in
     found-there c.table_at.ensures.0 c.has_bit.ensures c.if-has_bit.true place c.loop-r.invariant.gone c.in-Some-search.ensures
 
 pub loop-r-preserved : goal.loop-r-preserved
 loop-r-preserved t c =
-    let few = c.messages-count.ensures.few in
     record {
       gone = elim c.if-has_bit.branch [
         | nothing w ↦
-            let place = tried few c.messages-count.ensures.is c.if-count-at.false (omega arith) w.put.ensures c.unplaced-rest.ensures w.beside.ensures.beside in
+            let place = tried c.messages-count.ensures.few c.messages-count.ensures.is c.if-count-at.false (omega arith) w.put.ensures c.unplaced-rest.ensures w.beside.ensures.beside in
             gone-tried place (rw w.in_default.is at w.search.ensures) c.loop-r.invariant.gone
         | closed w ↦ gone-closed c.table_at.ensures.0 c.has_bit.ensures w.if-has_bit.false (omega (arith, c.messages-count.ensures.is)) c.loop-r.invariant.gone
       ];

@@ -1,6 +1,6 @@
--- The words of a file that is read are a well-formed problem in front of the buffer.
+-- A file that is read is long enough for a header.
+use Rattle.problem.proofs.Wrong.{head-right, file-parts}
 use Rattle.reasons.proofs.placements.of_file.Goals as goal
 
--- src/placements.rt:416:27
-pub slice_bounds-words-end : goal.slice_bounds-words-end
-slice_bounds-words-end g c = (c.decode-got.ensures.opens _ c.in-Ok.is).within
+pub layout_in-requires : goal.layout_in-requires
+layout_in-requires g c = (head-right _ (file-parts _ c.in-Ok.ensures.clear).0).long

@@ -1,9 +1,0 @@
--- A turn a figure.
-use Prim.Native.Nat.{◌≤◌, ◌-◌}
-use Rattle.picture.proofs.legend.parts.Given as goal
-
-abbrev pub invariant-loop-i : goal.invariant-loop-i
-invariant-loop-i l = l.i ≤ 5
-
-abbrev pub decreases-loop-i : goal.decreases-loop-i
-decreases-loop-i l = 5 - l.i

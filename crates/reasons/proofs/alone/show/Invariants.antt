@@ -1,9 +1,0 @@
--- A turn a message.
-use Rattle.std.proofs.Common.{◌-◌, ◌≤◌}
-use Rattle.reasons.proofs.alone.show.Given as goal
-
-abbrev pub invariant-loop-j : goal.invariant-loop-j
-invariant-loop-j l = l.j ≤ l.messages
-
-abbrev pub decreases-loop-j : goal.decreases-loop-j
-decreases-loop-j l = l.messages - l.j

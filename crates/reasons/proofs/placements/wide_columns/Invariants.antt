@@ -1,9 +1,0 @@
--- A turn a column.
-use Rattle.std.proofs.Common.{◌-◌, ◌≤◌}
-use Rattle.reasons.proofs.placements.wide_columns.Given as goal
-
-abbrev pub invariant-loop-c : goal.invariant-loop-c
-invariant-loop-c l = l.c ≤ l.columns
-
-abbrev pub decreases-loop-c : goal.decreases-loop-c
-decreases-loop-c l = l.columns - l.c

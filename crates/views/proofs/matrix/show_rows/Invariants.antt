@@ -1,9 +1,0 @@
--- A turn a basic cycle.
-use Prim.Native.Nat.{◌≤◌, ◌-◌}
-use Rattle.views.proofs.matrix.show_rows.Given as goal
-
-abbrev pub invariant-loop-r : goal.invariant-loop-r
-invariant-loop-r l = l.r ≤ l.rows
-
-abbrev pub decreases-loop-r : goal.decreases-loop-r
-decreases-loop-r l = l.rows - l.r
