@@ -63,46 +63,48 @@ fn clean(problem: &[u32], log: &[u32]) {
 }
 
 // A log of one matrix cycle that differs, or ends too early or too late: the index, and the pair that was due.
+const DIFFERING: [(&[u8], &[u8], &[u8]); 8] = [
+    (
+        b"two pairs swapped",
+        b"0 1  200 48  65 16  400 1  465 16  600 32",
+        b"1 65 16",
+    ),
+    (
+        b"the second reference missing",
+        b"0 1  65 16  200 48  465 16  600 32",
+        b"3 400 1",
+    ),
+    (
+        b"message 32 in row 0 and 48 in row 1",
+        b"0 1  65 16  200 32  400 1  465 16  600 48",
+        b"2 200 48",
+    ),
+    (
+        b"a reference one late",
+        b"0 1  65 16  200 48  401 1  465 16  600 32",
+        b"3 400 1",
+    ),
+    (
+        b"a pair too many",
+        b"0 1  65 16  200 48  400 1  465 16  600 32  800 1",
+        b"6 4294967295 4294967295",
+    ),
+    (
+        b"a pair too many, of the words that say nothing was due",
+        b"0 1  65 16  200 48  400 1  465 16  600 32  4294967295 4294967295",
+        b"6 4294967295 4294967295",
+    ),
+    (
+        b"the last pair missing",
+        b"0 1  65 16  200 48  400 1  465 16",
+        b"5 600 32",
+    ),
+    (b"an empty log", b"", b"0 0 1"),
+];
+
+// Each of these logs.
 fn differing(problem: &[u32]) {
-    let cases: [(&[u8], &[u8], &[u8]); 8] = [
-        (
-            b"two pairs swapped",
-            b"0 1  200 48  65 16  400 1  465 16  600 32",
-            b"1 65 16",
-        ),
-        (
-            b"the second reference missing",
-            b"0 1  65 16  200 48  465 16  600 32",
-            b"3 400 1",
-        ),
-        (
-            b"message 32 in row 0 and 48 in row 1",
-            b"0 1  65 16  200 32  400 1  465 16  600 48",
-            b"2 200 48",
-        ),
-        (
-            b"a reference one late",
-            b"0 1  65 16  200 48  401 1  465 16  600 32",
-            b"3 400 1",
-        ),
-        (
-            b"a pair too many",
-            b"0 1  65 16  200 48  400 1  465 16  600 32  800 1",
-            b"6 4294967295 4294967295",
-        ),
-        (
-            b"a pair too many, of the words that say nothing was due",
-            b"0 1  65 16  200 48  400 1  465 16  600 32  4294967295 4294967295",
-            b"6 4294967295 4294967295",
-        ),
-        (
-            b"the last pair missing",
-            b"0 1  65 16  200 48  400 1  465 16",
-            b"5 600 32",
-        ),
-        (b"an empty log", b"", b"0 0 1"),
-    ];
-    for (title, log, difference) in cases {
+    for (title, log, difference) in DIFFERING {
         text(title, problem, log, Ok(Some(difference)));
     }
 }
