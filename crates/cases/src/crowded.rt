@@ -1,10 +1,12 @@
 // Messages that are all due in the first row, in one column less than there are messages: document 003's mix of periods, offset 0, deadline one cycle.
 // A search without prices tries nearly every order of the columns before it says so.
 use trial::show;
+use trial::show::Wanted;
 
-// Nine messages, eight columns.
-fn nine() {
-    show::plan_text(
+// Each size of the family: its title, its problem as text, and the plan that is wanted.
+const SIZES: [(&[u8], &[u8], &[u8], &[u8], Wanted<&[u8]>); 4] = [
+    // Nine messages, eight columns.
+    (
         b"nine messages in eight columns",
         b"8 1278 78 240 32 8 9",
         b"78 150  228 150  378 150  528 150  678 150  828 150  978 150  1128 150",
@@ -18,12 +20,9 @@ fn nine() {
           88 0 8 2 10224 0 1278
           89 0 8 2 10224 0 1278",
         Err([14, 0, 0]),
-    );
-}
-
-// Ten messages, nine columns.
-fn ten() {
-    show::plan_text(
+    ),
+    // Ten messages, nine columns.
+    (
         b"ten messages in nine columns",
         b"8 1428 78 240 32 9 10",
         b"78 150  228 150  378 150  528 150  678 150  828 150  978 150  1128 150
@@ -39,12 +38,9 @@ fn ten() {
           89 0 8 2 11424 0 1428
           90 0 8 2 11424 0 1428",
         Err([14, 0, 0]),
-    );
-}
-
-// Sixteen messages, fifteen columns.
-fn sixteen() {
-    show::plan_text(
+    ),
+    // Sixteen messages, fifteen columns.
+    (
         b"sixteen messages in fifteen columns",
         b"8 2328 78 240 32 15 16",
         b"78 150  228 150  378 150  528 150  678 150  828 150  978 150  1128 150
@@ -66,12 +62,9 @@ fn sixteen() {
           95 0 8 2 18624 0 2328
           96 0 8 2 18624 0 2328",
         Err([14, 0, 0]),
-    );
-}
-
-// With a column for each they all go into the first row.
-fn enough() {
-    show::plan_text(
+    ),
+    // With a column for each they all go into the first row.
+    (
         b"sixteen messages in sixteen columns",
         b"8 2478 78 240 32 16 16",
         b"78 150  228 150  378 150  528 150  678 150  828 150  978 150  1128 150
@@ -93,14 +86,13 @@ fn enough() {
           95 0 8 2 19824 0 2478
           96 0 8 2 19824 0 2478",
         Ok(b"0 0  1 0  2 0  3 0  4 0  5 0  6 0  7 0  8 0  9 0  10 0  11 0  12 0  13 0  14 0  15 0"),
-    );
-}
+    ),
+];
 
-// Each size of the family.
+// Every size.
 pub fn run() {
     paper::text(b"All due in the first row\n");
-    nine();
-    ten();
-    sixteen();
-    enough();
+    for (title, header, columns, messages, wanted) in SIZES {
+        show::plan_text(title, header, columns, messages, wanted);
+    }
 }

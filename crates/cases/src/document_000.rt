@@ -36,10 +36,10 @@ fn figure(title: &[u8], header: &[u8], columns: &[u8], proposal: &[u8], losses: 
     show::accepted(title, &p[..n], proposal, losses);
 }
 
-// The messages placed by their periods; so that least is lost within the windows; and with one column more. The last figure gives 40 + 40 microseconds lost
-// within the windows; by its own rule four sends of 95 bits in a column of 105 lose 80 and one of 65 in a column of 85 loses 40: 60 bits in all.
+// The matrices of figures 4.4 to 4.6.
 fn figures() {
     let cases: [(&[u8], &[u8], &[u8], &[u8], &[u8]); 3] = [
+        // The messages placed by their periods.
         (
             b"figure 4.4",
             b"8 5000 95 0 32 7 12",
@@ -47,6 +47,7 @@ fn figures() {
             b"0 0  1 0  4 1  2 0  4 0  5 3  3 0  5 1  5 0  6 1  6 0  6 2",
             b"760 5080 220 500 33440",
         ),
+        // The messages placed so that least is lost within the windows.
         (
             b"figure 4.5",
             b"8 5000 95 0 32 7 12",
@@ -54,6 +55,8 @@ fn figures() {
             b"0 0  1 0  5 0  2 0  4 0  4 3  3 0  4 1  5 1  6 1  6 0  6 2",
             b"760 5080 140 500 33520",
         ),
+        // One column more. The figure gives 40 + 40 microseconds lost within the windows; by its own rule four sends of 95 bits
+        // in a column of 105 lose 80 and one of 65 in a column of 85 loses 40: 60 bits in all.
         (
             b"figure 4.6",
             b"8 5000 95 0 32 8 12",

@@ -1,6 +1,4 @@
 // Document 02, request a): logs held against T1 and its plan, and the list that is due.
-ghost use Rattle.std.specs.Prelude.{◌<◌};
-
 use crate::document_01;
 use rules::words::MOST_WORDS;
 use trial::show::Wanted;
@@ -14,30 +12,14 @@ const HUNDRED: usize = 100 * ONE;
 // The most words of a log that stands here as text.
 const TEXT_WORDS: usize = 16;
 
-// Word i of T1's log. A matrix cycle is 800 long and has six sends: the reference and 16 in each row, 48 in the first and 32 in the second.
-fn log_word(i: usize) -> u32
-    requires { i < 1200 }
-{
-    let begin = 800 * (i / ONE) as u32;
-    match i % ONE {
-        0 => begin,
-        2 => begin + 65,
-        3 => 16,
-        4 => begin + 200,
-        5 => 48,
-        6 => begin + 400,
-        8 => begin + 465,
-        9 => 16,
-        10 => begin + 600,
-        11 => 32,
-        _ => 1,
-    }
-}
-
-// T1's log over 100 matrix cycles.
-fn t1_log(words: &mut [u32; HUNDRED]) {
-    for (i, word) in words.iter_mut().enumerate() {
-        *word = log_word(i);
+// T1's log over 100 matrix cycles. A matrix cycle is 800 long and has six sends: the reference and 16 in each row, 48 in the first and 32 in the second.
+fn t1_log(words: &mut [u32]) {
+    let sends: [(u32, u32); 6] = [(0, 1), (65, 16), (200, 48), (400, 1), (465, 16), (600, 32)];
+    for cycle in 0..100usize {
+        for (k, (time, identifier)) in sends.into_iter().enumerate() {
+            let begin = 800 * cycle as u32;
+            build::put(&[begin + time, identifier], ONE * cycle + 2 * k, words);
+        }
     }
 }
 
@@ -81,46 +63,48 @@ fn clean(problem: &[u32], log: &[u32]) {
 }
 
 // A log of one matrix cycle that differs, or ends too early or too late: the index, and the pair that was due.
+const DIFFERING: [(&[u8], &[u8], &[u8]); 8] = [
+    (
+        b"two pairs swapped",
+        b"0 1  200 48  65 16  400 1  465 16  600 32",
+        b"1 65 16",
+    ),
+    (
+        b"the second reference missing",
+        b"0 1  65 16  200 48  465 16  600 32",
+        b"3 400 1",
+    ),
+    (
+        b"message 32 in row 0 and 48 in row 1",
+        b"0 1  65 16  200 32  400 1  465 16  600 48",
+        b"2 200 48",
+    ),
+    (
+        b"a reference one late",
+        b"0 1  65 16  200 48  401 1  465 16  600 32",
+        b"3 400 1",
+    ),
+    (
+        b"a pair too many",
+        b"0 1  65 16  200 48  400 1  465 16  600 32  800 1",
+        b"6 4294967295 4294967295",
+    ),
+    (
+        b"a pair too many, of the words that say nothing was due",
+        b"0 1  65 16  200 48  400 1  465 16  600 32  4294967295 4294967295",
+        b"6 4294967295 4294967295",
+    ),
+    (
+        b"the last pair missing",
+        b"0 1  65 16  200 48  400 1  465 16",
+        b"5 600 32",
+    ),
+    (b"an empty log", b"", b"0 0 1"),
+];
+
+// Each of these logs.
 fn differing(problem: &[u32]) {
-    let cases: [(&[u8], &[u8], &[u8]); 8] = [
-        (
-            b"two pairs swapped",
-            b"0 1  200 48  65 16  400 1  465 16  600 32",
-            b"1 65 16",
-        ),
-        (
-            b"the second reference missing",
-            b"0 1  65 16  200 48  465 16  600 32",
-            b"3 400 1",
-        ),
-        (
-            b"message 32 in row 0 and 48 in row 1",
-            b"0 1  65 16  200 32  400 1  465 16  600 48",
-            b"2 200 48",
-        ),
-        (
-            b"a reference one late",
-            b"0 1  65 16  200 48  401 1  465 16  600 32",
-            b"3 400 1",
-        ),
-        (
-            b"a pair too many",
-            b"0 1  65 16  200 48  400 1  465 16  600 32  800 1",
-            b"6 4294967295 4294967295",
-        ),
-        (
-            b"a pair too many, of the words that say nothing was due",
-            b"0 1  65 16  200 48  400 1  465 16  600 32  4294967295 4294967295",
-            b"6 4294967295 4294967295",
-        ),
-        (
-            b"the last pair missing",
-            b"0 1  65 16  200 48  400 1  465 16",
-            b"5 600 32",
-        ),
-        (b"an empty log", b"", b"0 0 1"),
-    ];
-    for (title, log, difference) in cases {
+    for (title, log, difference) in DIFFERING {
         text(title, problem, log, Ok(Some(difference)));
     }
 }
