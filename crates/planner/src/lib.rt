@@ -169,8 +169,6 @@ fn replan_words(p: &[u32], kept: &[u32], proposal: &mut [u32]) -> Result<usize, 
     let mut taken = [0u32; words::MOST_ROWS];
     proposal::kept_fault(p, kept, &mut taken)?;
     let group = rest::free_of(kept, words::messages_of(p))?;
-    // asked for its promise alone, that a group has no more messages than are planned
-    group.numbers();
     refuse_if(proposal.len() < kept.len(), Refusal::Room)?;
     let Some(whole) = complete(p, kept, &taken, &group) else {
         return Err(Refusal::NoPlan);

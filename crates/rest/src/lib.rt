@@ -35,7 +35,7 @@ pub fn free_count(kept: &[u32], messages: usize) -> usize
 pub fn free_of(kept: &[u32], messages: usize) -> Result<Group, Refusal>
     requires { (messages ≤ most_messages) × (length kept.now ≡ 2 * messages) }
     ensures free { IfOk result (λ g. Free kept.now messages g (length g)) }
-    ensures count { MatchResult result (λ g. length g ≡ free_of kept.now messages) (λ q. (q ≡ TooMany) × (most_planned < free_of kept.now messages)) }
+    ensures count { MatchResult result (λ g. (length g ≡ free_of kept.now messages) × (length g ≤ most_planned)) (λ q. (q ≡ TooMany) × (most_planned < free_of kept.now messages)) }
 {
     if places::MOST_PLANNED < free_count(kept, messages) {
         return Err(Refusal::TooMany);

@@ -34,16 +34,18 @@ returns-in_err-group c =
 pub returns-in_err-refuse_if : goal.returns-in_err-refuse_if
 returns-in_err-refuse_if c =
     let clear = sym c.in_ok-kept_fault.ensures.is in
+    let left = rw c.messages_of.ensures.0 at c.in_ok-group.ensures.count in
     first-clear clear
-    (first-clear (few_enough (omega (arith, rw c.messages_of.ensures.0 at c.in_ok-group.ensures.count, c.numbers.ensures.few)))
+    (first-clear (few_enough (omega (arith, left.0, left.1)))
     (last-refused _ (sym (rw (words _ _ clear) at c.in_err-refuse_if.ensures)) c.from_residual-in_err-refuse_if.ensures.1))
 
 -- ---- there what is left is few, and the buffer long enough
 pub returns-in_default : goal.returns-in_default
 returns-in_default c =
     let clear = sym c.in_ok-kept_fault.ensures.is in
+    let left = rw c.messages_of.ensures.0 at c.in_ok-group.ensures.count in
     first-clear clear
-    (first-clear (few_enough (omega (arith, rw c.messages_of.ensures.0 at c.in_ok-group.ensures.count, c.numbers.ensures.few)))
+    (first-clear (few_enough (omega (arith, left.0, left.1)))
     (not_found (sym (rw (words _ _ clear) at c.in_ok-refuse_if.ensures)) (rw c.in_default.is at c.complete.ensures)))
 
 -- what was found has a proposal's words
@@ -56,7 +58,8 @@ slice_bounds-copy_words-end c = sym (length-take-le _ c.in-Some.whole (long _ _ 
 pub returns : goal.returns
 returns c =
     let clear = sym c.in_ok-kept_fault.ensures.is in
+    let left = rw c.messages_of.ensures.0 at c.in_ok-group.ensures.count in
     let best : Completed c.args.p.now c.args.kept.now c.in-Some.whole = c.in-Some.ensures in
     first-clear clear
-    (first-clear (few_enough (omega (arith, rw c.messages_of.ensures.0 at c.in_ok-group.ensures.count, c.numbers.ensures.few)))
+    (first-clear (few_enough (omega (arith, left.0, left.1)))
     (is_found c.in-Some.whole (sym (rw (words _ _ clear) at c.in_ok-refuse_if.ensures)) (rw (words _ _ clear) best.least) (long _ _ clear best) c.copy_words.ensures))
