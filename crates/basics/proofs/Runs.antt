@@ -9,7 +9,7 @@ use native.Mathlib.Nat.{add-zero, add-suc, add-sub_cancel_left, mul-le-mul_left,
 use native.Mathlib.Numerals.{add-one}
 use native.Mathlib.Omega.{arith}
 use lib.ListN.{length, get_or, set, take, drop, drop_of_length-le, length-append, length-drop, take-append-drop, get_or-append}
-use lib.Seq.{drop-append_seam, sets, sets-eq, take_at, drop_at, drop-drop, length-take-le, drop-cons, set_at, take-suc, take_all, take-add, get_or-take, get_or-drop}
+use lib.Seq.{drop-append_seam, sets, sets-eq, take_at, drop_at, drop-drop, length-take-le, drop-cons, set_at, take_all, take-add, get_or-take, get_or-drop}
 use Rattle.basics.specs.Runs.{run, piece, tab, front, Turned}
 
 -- ---- runs
@@ -198,18 +198,6 @@ module _
 pub store-next : (p d : List ℕ) (i v : ℕ) → length p ≡ i → i < length d → set (p ++ drop i d) i v ≡ (p ++ (v ∷ [])) ++ drop (i + 1) d
 store-next p d i v e l = rw (drop-cons d i 0 l, set_at p (get_or d i 0) (drop (suc i) d) v i e, add-one, append_assoc)
 
-pub copy-next : (s d xs : List ℕ) (i : ℕ) → i < length s → i < length d → xs ≡ take i s ++ drop i d → set xs i (get_or s i 0) ≡ take (i + 1) s ++ drop (i + 1) d
-copy-next s d xs i h l e = rw (e, store-next (take i s) d i (get_or s i 0) (length-take-le i s (omega arith)) l, add-one, take-suc s i 0 h)
-
--- several words at a time
-pub sets-next : (d p vs l m : List ℕ) (n : ℕ) → l ≡ p ++ drop n d → length p ≡ n → n + length vs ≤ length d → m ≡ sets l n vs → m ≡ p ++ vs ++ drop (n + length vs) d
-sets-next d p vs l m n e h b q =
-    let t : take n l ≡ p = rw (e, take_at p (drop n d) n h) in
-    let same : drop n l ≡ drop n d = rw (e, drop_at p (drop n d) n h) in
-    let u : drop (n + length vs) l ≡ drop (n + length vs) d = sym (drop-drop (length vs) n l) ∙ ap (drop (length vs)) same ∙ drop-drop (length vs) n d in
-    let k : n + length vs ≤ length l = rw (e, length-append, length-drop) (omega arith) in
-    q ∙ sets-eq vs l n k ∙ rw (t, u)
-
 pub sets-all : (vs w : List ℕ) → length w ≡ length vs → sets w 0 vs ≡ vs
 sets-all vs w h = sets-eq vs w 0 (omega arith) ∙ ap (λ (l : List ℕ). vs ++ l) (drop_of_length-le w {i = 0 + length vs} (omega arith)) ∙ append-nil vs
 
@@ -220,9 +208,6 @@ sets_behind vs (x ∷ l) h =
     sets-eq vs (x ∷ l) 1 (omega arith)
     ∙ ap (λ (t : List ℕ). x ∷ (vs ++ t)) (drop_of_length-le (x ∷ l) {i = 1 + length vs} (omega arith))
     ∙ ap (λ (t : List ℕ). x ∷ t) (append-nil vs)
-
-pub set_first : {l rest : List ℕ} {x y t : ℕ} → l ≡ y ∷ rest → x ≡ t → set l 0 x ≡ t ∷ rest
-set_first e h = rw (e, h)
 
 -- and to its end
 pub filled : (d p l : List ℕ) (n : ℕ) → l ≡ p ++ drop n d → length d ≡ n → l ≡ p

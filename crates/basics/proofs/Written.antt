@@ -48,6 +48,3 @@ module _ (g : ℕ → List ℕ) where
   run_room n i l h =
       let e : n ≡ i + (n - i) = omega arith in
       omega (arith, ap (λ (k : ℕ). length (run k g)) e, ap length (run-split g i (n - i)), length-append (run i g) (run (n - i) (λ k. g (i + k))))
-
-  pub run-all : {n m : ℕ} {d l : List ℕ} {at : ℕ} → n ≡ m → Begins (run n g) d l at → Put (run m g) d l at
-  run-all e h = rw e at h.put

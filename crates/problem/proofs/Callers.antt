@@ -5,7 +5,7 @@ use mathlib.Core.Path.{◌≡◌, refl, sym, ap, ◌∙◌}
 use mathlib.Core.Bool.{Bool, cond}
 use mathlib.Core.List.{List, ◌++◌}
 use native.Mathlib.Omega.{arith}
-use borrow.Author.Tests.{lt-ltb, le-ltb, eq-eqb, ne_eqb, eqb-true}
+use borrow.Author.Tests.{le-ltb, eq-eqb, ne_eqb, eqb-true}
 use borrow.Rule.Slice.PartMut.{put_mid}
 use lib.Dec.{ltb}
 use lib.ListN.{length, take, drop, length-append, length-drop}
@@ -107,27 +107,13 @@ told Two p f =
     ap (λ (b : Bool). cond b One Two) (ne_eqb (length w) (said_count One w) n)
 
 -- ---- the writer's chain, by cases
-module _ (w : List ℕ) where
-  pub count-short : length w < 7 → Err Length ≡ count_fault w
+module _ (w : List ℕ) (long : 7 ≤ length w) (right : header_fault w ≡ Ok tt) where
+  pub count-clear : length w ≡ said_count (layout_by w) w → Ok tt ≡ count_fault w
   unfolding count_fault
-  count-short l = rw (lt-ltb (length w) 7 l)
+  count-clear e = rw (le-ltb (length w) 7 long, right, eq-eqb (length w) (said_count (layout_by w) w) e)
 
-  module _ (long : 7 ≤ length w) where
-    pub count-header : {x : Fault} {q : Refusal} → x ≡ header_fault w → x ≡ Err q → x ≡ count_fault w
-    unfolding count_fault
-    count-header e b = rw (le-ltb (length w) 7 long, ← e, b)
-
-    module _ (right : header_fault w ≡ Ok tt) where
-      pub count-unlike : (length w ≡ said_count (layout_by w) w → ⊥) → Err Length ≡ count_fault w
-      unfolding count_fault
-      count-unlike n = rw (le-ltb (length w) 7 long, right, ne_eqb (length w) (said_count (layout_by w) w) n)
-
-      pub count-clear : length w ≡ said_count (layout_by w) w → Ok tt ≡ count_fault w
-      unfolding count_fault
-      count-clear e = rw (le-ltb (length w) 7 long, right, eq-eqb (length w) (said_count (layout_by w) w) e)
-
-      pub header-few : {k m : ℕ} → k ≡ columns w → m ≡ messages w → (k ≤ 32) × (m ≤ 64)
-      header-few a b = let h = (header-kept w).0 right in (omega arith, omega arith)
+  pub header-few : {k m : ℕ} → k ≡ columns w → m ≡ messages w → (k ≤ 32) × (m ≤ 64)
+  header-few a b = let h = (header-kept w).0 right in (omega arith, omega arith)
 
 -- what a count with no fault says of the words
 pub record Given (w : List ℕ) : Type 0 where

@@ -16,7 +16,7 @@ use Rattle.basics.proofs.Tests.{either}
 use Rattle.problem.specs.declared.layout.Layout.{Layout}
 use Rattle.problem.specs.declared.layout.Layout.TheVariants.{One, Two}
 use Rattle.problem.specs.Bytes.{low, high}
-use Rattle.problem.specs.Layout.{version, is_version, layout_of, kind_size, kind_of, kind_bytes, kind_most, identifier_size, identifier_of, identifier_bytes, identifier_most, column_size, column_of, column_bytes, rest_of, rest_bytes, message_size, message_of, message_bytes}
+use Rattle.problem.specs.Layout.{version, is_version, layout_of, kind_of, kind_bytes, kind_most, identifier_size, identifier_of, identifier_bytes, identifier_most, column_size, column_of, column_bytes, rest_of, rest_bytes, message_size, message_of, message_bytes}
 use Rattle.problem.specs.Callers.{column_words}
 use Rattle.problem.proofs.Bytes.{low_small, two_back, four-back, high-two, low-two, four-parts}
 
@@ -59,10 +59,6 @@ step s c k n few most l h =
     let e : s * (c + 1) ≡ s * c + s = rw (add-one, mul-suc) in
     let b : s * k ≤ 20 * 64 = mul-le-mul few most in
     (omega arith, omega arith)
-
-pub kind-length : (L : Layout) (x : ℕ) → length (kind_bytes L x) ≡ kind_size L
-kind-length One x = refl
-kind-length Two x = refl
 
 pub identifier-length : (L : Layout) (x : ℕ) → length (identifier_bytes L x) ≡ identifier_size L
 identifier-length One x = refl

@@ -1,11 +1,11 @@
 -- Laws of what is wrong with a file and with a problem to be held: the chains of refusals by their cases, and what it says that they find nothing.
-use Prim.Native.Nat.{ℕ, ◌<◌, ◌≤◌}
+use Prim.Native.Nat.{ℕ, ◌≤◌}
 use mathlib.Core.Path.{◌≡◌}
-use mathlib.Core.Bool.{true, false, not}
+use mathlib.Core.Bool.{true, not}
 use mathlib.Core.List.{List}
 use mathlib.Core.Logic.{◌↔◌}
 use native.Mathlib.Omega.{arith}
-use borrow.Author.Tests.{le-ltb, lt-ltb, eq-eqb, ne_eqb, ltb-false, eqb-true}
+use borrow.Author.Tests.{le-ltb, eq-eqb, ltb-false, eqb-true}
 use lib.Dec.{ltb, eqb}
 use lib.ListN.{length, get_or}
 use Rattle.rules.specs.declared.Refusal.{Refusal}
@@ -20,20 +20,9 @@ use Rattle.problem.specs.declared.layout.Layout.{Layout}
 use Rattle.problem.specs.declared.layout.Layout.TheVariants.{One, Two}
 use Rattle.problem.specs.Layout.{is_version, kind_most, identifier_most}
 use Rattle.problem.specs.File.{head_bytes, bytes_for, header_of, version_in, layout_in, columns_in, messages_in, words_in, words_of, Held}
-use Rattle.problem.specs.Parts.{Counted}
 use Rattle.problem.specs.Wrong.{marked, head_fault, file_fault, column_unheld, message_unheld, held_fault}
 use Rattle.problem.proofs.File.{length-words}
 use Rattle.std.specs.Prelude.{Err, Ok}
-
--- ---- words, by cases
-pub formed-counted : (p : List ℕ) (k m : ℕ) → WellFormed p → k ≡ columns p → m ≡ messages p → Counted p k m
-formed-counted p k m f a b = record {
-  columns-are = a;
-  messages-are = b;
-  words = omega (arith, f.words);
-  columns-most = omega (arith, f.header.columns-most);
-  messages-most = omega (arith, f.header.messages-most);
-}
 
 -- ---- a file's head, by cases
 -- how many bytes a file has by its header
@@ -46,38 +35,11 @@ module _ (f : List ℕ) where
   unfolding words_in header_fault
   header_read e h = rw e at h
 
-  pub head-short : length f < head_bytes → Err Length ≡ head_fault f
-  unfolding head_fault
-  head-short l = rw (lt-ltb (length f) head_bytes l)
-
-  module _ (long : head_bytes ≤ length f) where
-    pub head-unmarked : marked f ≡ false → Err Mark ≡ head_fault f
-    unfolding head_fault
-    head-unmarked e = rw (le-ltb (length f) head_bytes long, e)
-
-    module _ (mark : marked f ≡ true) where
-      pub head-other : is_version (version_in f) ≡ false → Err Version ≡ head_fault f
-      unfolding head_fault
-      head-other e = rw (le-ltb (length f) head_bytes long, mark, e)
-
-      module _ (version : is_version (version_in f) ≡ true) {x : Fault} (tested : x ≡ header_fault (words_of f)) where
-        pub head-wrong : {q : Refusal} → x ≡ Err q → x ≡ head_fault f
-        unfolding head_fault
-        head-wrong e = rw (le-ltb (length f) head_bytes long, mark, version, ← tested, e)
-
-        module _ (right : x ≡ Ok tt) where
-          pub head-last : (get_or f last_byte 0 ≡ 0 → ⊥) → Err (Header last_byte) ≡ head_fault f
-          unfolding head_fault
-          head-last n = rw (le-ltb (length f) head_bytes long, mark, version, ← tested, right, ne_eqb (get_or f last_byte 0) 0 n)
-
-          module _ (last : get_or f last_byte 0 ≡ 0) where
-            pub head-unlike : (length f ≡ bytes_in f → ⊥) → Err Length ≡ head_fault f
-            unfolding head_fault words_in
-            head-unlike n = rw (le-ltb (length f) head_bytes long, mark, version, ← tested, right, eq-eqb (get_or f last_byte 0) 0 last, ne_eqb (length f) (bytes_in f) n)
-
-            pub head_clear : length f ≡ bytes_in f → Ok tt ≡ head_fault f
-            unfolding head_fault words_in
-            head_clear e = rw (le-ltb (length f) head_bytes long, mark, version, ← tested, right, eq-eqb (get_or f last_byte 0) 0 last, eq-eqb (length f) (bytes_in f) e)
+  pub head_clear : head_bytes ≤ length f → marked f ≡ true → is_version (version_in f) ≡ true → {x : Fault} → x ≡ header_fault (words_of f) → x ≡ Ok tt → get_or f last_byte 0 ≡ 0
+      → length f ≡ bytes_in f → Ok tt ≡ head_fault f
+  unfolding head_fault words_in
+  head_clear long mark version tested right last e =
+      rw (le-ltb (length f) head_bytes long, mark, version, ← tested, right, eq-eqb (get_or f last_byte 0) 0 last, eq-eqb (length f) (bytes_in f) e)
 
 -- what a head with no fault says of the file
 pub record Head (f : List ℕ) : Type 0 where

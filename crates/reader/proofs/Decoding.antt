@@ -5,7 +5,7 @@ use mathlib.Core.List.{List, ◌++◌}
 use native.Mathlib.Omega.{arith}
 use borrow.Author.Tests.{lt-ltb, le-ltb}
 use lib.ListN.{length, take, drop}
-use lib.Seq.{take_at, length-take-le}
+use lib.Seq.{take_at}
 use Rattle.rules.specs.declared.Refusal.{Refusal}
 use Rattle.rules.specs.declared.Refusal.TheVariants.{Room}
 use Rattle.problem.specs.declared.layout.Layout.{Layout}
@@ -58,10 +58,6 @@ module _ {f e : List ℕ} {n : ℕ} (a : Laid f e n) {x : Fault} (tested : x ≡
   opened h =
       let c : file_fault f ≡ Ok tt = fault-is ∙ h in
       record { clear = c; within = a.within; front = a.front; formed = rw a.front (file-formed f c) }
-
--- the words in front of a buffer that holds a problem are as many as the answer says
-pub opened-length : {f b : List ℕ} {n : ℕ} → Opened f b n → length (take n b) ≡ n
-opened-length {f} {b} {n} o = length-take-le n b o.within
 
 -- and have three for each column
 pub opened-said : {f b : List ℕ} {n k m : ℕ} → Opened f b n → k ≡ columns_in f → m ≡ messages_in f → Said (take n b) 3 k m

@@ -23,15 +23,6 @@ pub record Freeing (t : List ℕ) (r step rows x i y : ℕ) : Type 0 where
   pub only : (c : ℕ) → Has y c → Has x c
   pub unset : (k c : ℕ) → c < most_columns → r + k * step < i → Has y c → Has (get_or t (r + k * step) 0) c → ⊥
 
-pub freeing-none : (t : List ℕ) (r step rows x : ℕ) → Freeing t r step rows x r x
-freeing-none t r step rows x = record {
-  turn = 0;
-  now-at = omega arith;
-  keeps = λ c l h n. h;
-  only = λ c h. h;
-  unset = λ k c l g. absurd (omega arith);
-}
-
 module _ {t : List ℕ} {r step rows x i y : ℕ} (f : Freeing t r step rows x i y) (some : 1 ≤ step) where
   pub freeing-more : {z next : ℕ} → i < rows → Without y (get_or t i 0) z → next ≡ i + step → Freeing t r step rows x next z
   freeing-more {z} {next} li w en =

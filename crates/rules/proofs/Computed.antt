@@ -1,43 +1,21 @@
 -- What the functions of src/ compute from the words that they read is what the tests of document 01 say.
-use Prim.Native.Nat.{ℕ, ◌+◌, ◌*◌, ◌-◌, ◌/◌, ◌%◌, ◌<◌, ◌≤◌, min}
-use mathlib.Core.Path.{◌≡◌, sym, ◌∙◌}
+use Prim.Native.Nat.{ℕ, ◌+◌, ◌*◌, ◌-◌, ◌%◌, ◌<◌, ◌≤◌, min}
+use mathlib.Core.Path.{◌≡◌, sym}
 use mathlib.Core.Bool.{Bool, true, false, not, ◌&&◌}
 use mathlib.Core.List.{List}
 use native.Mathlib.Nat.{mod-eq_of_lt}
 use native.Mathlib.Omega.{arith}
 use lib.Arith.{digits_lt}
 use lib.Dec.{leb, ltb, eqb}
-use lib.ListN.{get_or}
 use borrow.Author.Tests.{eq-eqb, ne_eqb, not-true, not-false}
-use Rattle.basics.proofs.Tests.{true-T, parts}
 use Rattle.rules.specs.declared.Refusal.TheVariants.{Range, Width, Late}
-use Rattle.rules.specs.Problem.{column_at, message_at, cycle, columns, start, width, field, period, offset, deadline, lasts, repeat, column, row, Placed, WellFormed}
+use Rattle.rules.specs.Problem.{cycle, columns, start, width, period, offset, deadline, lasts, repeat, column, row, Placed}
 use Rattle.rules.specs.Tests.{in_range, fits, wait, timely, common, meets, own_fault}
-use Rattle.rules.specs.Parts.{Member, Start, Width as WidthIs, Period, Repeat, First, Wait}
+use Rattle.rules.specs.Parts.{Member, Period, First, Wait}
 use Rattle.rules.proofs.Digits.{mod-once}
-use Rattle.rules.proofs.Bounds.{period-is, repeat-least, repeat-most}
+use Rattle.rules.proofs.Bounds.{period-is}
 use Rattle.rules.proofs.Columns.{in-cycle}
 use Rattle.std.specs.Prelude.{Err, Ok}
-
--- words of a column and of a message, read where they stand
-module _ {p : List ℕ} {c a r : ℕ} (wf : WellFormed p) (l : c < columns p) (at : a ≡ column_at c) where
-  pub start-at : r ≡ get_or p a 0 → Start p c r
-  start-at e = let is : r ≡ start p c = rw at at e in record { is = is; most = let rule = wf.column c l in omega arith }
-
-  pub width-at : r ≡ get_or p (a + 1) 0 → WidthIs p c r
-  width-at e =
-      let is : r ≡ width p c = rw at at e in
-      let rule = wf.column c l in
-      record { is = is; least = omega arith; most = omega arith }
-
-pub field_at : {p : List ℕ} {j n a r : ℕ} → Member p j → (k : ℕ) → n ≡ columns p → a ≡ message_at n j → (r ≡ get_or p (a + k) 0) × (r < 4294967296)
-    → (r ≡ field p j k) × (r < 4294967296)
-field_at m k e h w = (rw (h, e) at w.0, w.1)
-
-pub repeat-of : {p : List ℕ} {j a b : ℕ} → Member p j → a ≡ period p j → b ≡ cycle p → Repeat p j (a / b)
-repeat-of {p} {j} {a} {b} m ea eb =
-    let e : a / b ≡ repeat p j = cc in
-    record { is = e; least = omega (arith, repeat-least m); most = omega (arith, repeat-most m) }
 
 -- the first send starts in the message's first period
 pub first_below : {p : List ℕ} {j c r : ℕ} → Member p j → Placed p j c r → r * cycle p + start p c < period p j
@@ -81,10 +59,6 @@ module _ {p : List ℕ} {j : ℕ} (m : Member p j) (c r : ℕ) where
   pub timely-is : {t f d : ℕ} → t ≡ wait p j c r → f ≡ lasts p j → d ≡ deadline p j → leb (t + f) d ≡ timely p j c r
   unfolding timely
   timely-is et ef ed = rw (et, ef, ed)
-
-  pub placed_of : {b : Bool} → b ≡ in_range p j c r → b ≡ true → Placed p j c r
-  unfolding in_range
-  placed_of e t = let h = true-T (sym e ∙ t) in record { column-below = search parts; row_below = search parts }
 
 -- two messages of a proposal
 module _ {p : List ℕ} {i j : ℕ} (mi : Member p i) (mj : Member p j) (w : List ℕ) where
