@@ -7,6 +7,7 @@ ghost use Rattle.holding.specs.Sources.{OfPlan};
 
 use basics::FILL;
 use bus_log::{Difference, PAIR};
+use files::input::Told;
 use files::{input, pieces};
 use reasons::Call;
 use rules::words;
@@ -136,41 +137,42 @@ fn show_list(p: &[u32], w: &[u32], list: &[u32])
 }
 
 // Holds a log against a proposal, and says what came of it; the problem is read once more where the log differs.
-fn hold(rt: &impl Env, call: Call, log: &[u32], span: u32) {
+fn hold(rt: &impl Env, call: Call, log: &[u32], span: u32) -> Result<(), Told> {
     match bus_log::hold(call.file, call.words, log, span) {
-        Err(q) => reasons::of_log(rt, q, call, log.len(), span),
+        Err(q) => {
+            reasons::of_log(rt, q, call, log.len(), span);
+            return Err(Told);
+        }
         Ok(None) => show_clean(log.len() / PAIR, span),
         Ok(Some(d)) => {
             let mut words = [FILL; words::MOST_WORDS];
-            let n = input::decoded(rt, call.file, &mut words);
-            if 0 < n {
-                show_difference(&words[..n], call.words, log, d);
-            }
+            let p = input::decoded(rt, call.file, &mut words)?;
+            show_difference(p, call.words, log, d);
         }
     }
+    Ok(())
 }
 
 // Shows what a proposal has due in so many matrix cycles.
-pub fn show_due(rt: &impl Env, call: Call, span: u32) {
+pub fn show_due(rt: &impl Env, call: Call, span: u32) -> Result<(), Told> {
     let mut sends = [FILL; bus_log::MOST_WORDS];
     match bus_log::due(call.file, call.words, span, &mut sends) {
-        Err(q) => reasons::of_log(rt, q, call, 0, span),
+        Err(q) => {
+            reasons::of_log(rt, q, call, 0, span);
+            Err(Told)
+        }
         Ok(count) => {
-            let count = input::within(count, &sends);
             let mut words = [FILL; words::MOST_WORDS];
-            let n = input::decoded(rt, call.file, &mut words);
-            if 0 < n {
-                show_list(&words[..n], call.words, &sends[..count]);
-            }
+            let p = input::decoded(rt, call.file, &mut words)?;
+            show_list(p, call.words, &sends[..input::within(count, &sends)]);
+            Ok(())
         }
     }
 }
 
 // Holds the log that an argument names.
-pub fn hold_file<R: Env + Files + Input>(rt: &R, call: Call, span: u32) {
-    let mut log = [FILL; pieces::LOG_WORDS];
-    let got = pieces::words(rt, origin::LOG, &mut log);
-    if got.is_good {
-        hold(rt, call, &log[..got.count], span);
-    }
+pub fn hold_file<R: Env + Files + Input>(rt: &R, call: Call, span: u32) -> Result<(), Told> {
+    let mut buffer = [FILL; pieces::LOG_WORDS];
+    let log = pieces::words(rt, origin::LOG, &mut buffer)?;
+    hold(rt, call, log, span)
 }
