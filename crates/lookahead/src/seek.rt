@@ -155,7 +155,7 @@ fn step(
     }
 }
 
-// Each place of message j costs d more in every cell.
+// Each place of message j costs d more in every cell. The walk is that of `step`: closures for its columns and for the new price would be longer than its two lines.
 fn spread(
     p: &Plannable,
     table: &[u32; places::TABLE_WORDS],

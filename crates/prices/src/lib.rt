@@ -31,7 +31,7 @@ pub struct Offer {
     pub row: usize,
 }
 
-// Where the price of the cell in row i and column c stands.
+// Where the price of the cell in row i and column c stands. Prices and sums are one list each, as specs/ has them, like the tables of places.
 pub fn cell_at(i: usize, c: usize) -> usize
     requires { (i < most_rows) × (c < most_columns) }
     ensures { (result ≡ cell_at i c) × (result < most_cells) }

@@ -8,7 +8,7 @@ use rules::Refusal;
 // The most words of a text of changes.
 const CHANGES: usize = 16;
 
-// A file moved, up or back.
+// A file moved, up or back: a flag and no layout, since `cases`, which asks for it, knows nothing of the file.
 fn moved(file: &[u8], is_up: bool, out: &mut [u8]) -> Result<usize, Refusal> {
     if is_up {
         versions::up(file, out)
