@@ -168,7 +168,7 @@ fn replan_words(p: &[u32], kept: &[u32], proposal: &mut [u32]) -> Result<usize, 
 {
     let mut taken = [0u32; words::MOST_ROWS];
     proposal::kept_fault(p, kept, &mut taken)?;
-    let group = rest::free_of(kept, words::messages_of(p))?;
+    let group = rest::free_group(kept, words::messages_of(p))?;
     refuse_if(proposal.len() < kept.len(), Refusal::Room)?;
     let Some(whole) = complete(p, kept, &taken, &group) else {
         return Err(Refusal::NoPlan);

@@ -32,7 +32,7 @@ pub fn free_count(kept: &[u32], messages: usize) -> usize
 }
 
 // The messages without a kept placement, in file order, unless there are more than are planned.
-pub fn free_of(kept: &[u32], messages: usize) -> Result<Group, Refusal>
+pub fn free_group(kept: &[u32], messages: usize) -> Result<Group, Refusal>
     requires { (messages ≤ most_messages) × (length kept.now ≡ 2 * messages) }
     ensures free { IfOk result (λ g. Free kept.now messages g (length g)) }
     ensures count { MatchResult result (λ g. (length g ≡ free_of kept.now messages) × (length g ≤ most_planned)) (λ q. (q ≡ TooMany) × (most_planned < free_of kept.now messages)) }

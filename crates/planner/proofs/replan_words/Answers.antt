@@ -23,8 +23,8 @@ kept_fault-requires c = (c.requires, words-none _ _ c.requires)
 pub returns-in_err-kept_fault : goal.returns-in_err-kept_fault
 returns-in_err-kept_fault c = first-refused _ _ (sym c.in_err-kept_fault.ensures.is) c.from_residual.ensures.1
 
-pub free_of-requires : goal.free_of-requires
-free_of-requires c = (omega arith, omega (arith, c.messages_of.ensures, words _ _ (sym c.in_ok-kept_fault.ensures.is)))
+pub free_group-requires : goal.free_group-requires
+free_group-requires c = (omega arith, omega (arith, c.messages_of.ensures, words _ _ (sym c.in_ok-kept_fault.ensures.is)))
 
 -- ---- there is nothing wrong with the placements; the messages without one may be too many, and the buffer too short
 pub returns-in_err-group : goal.returns-in_err-group

@@ -1,8 +1,8 @@
 -- A message more that is not kept stands behind the others, for whom there is room: no more are free than are planned.
 use Rattle.std.proofs.Common.{arith, sym, ◌∙◌, ◌+◌}
 use Rattle.rest.proofs.Walk.{walked_none, walked-kept, walked-free, next-free, free-rises}
-use Rattle.rest.proofs.free_of.Goals as goal
-use Rattle.rest.proofs.free_of.Goals.{then-not-keeps, else-not-keeps}
+use Rattle.rest.proofs.free_group.Goals as goal
+use Rattle.rest.proofs.free_group.Goals.{then-not-keeps, else-not-keeps}
 
 pub loop-j-init : goal.loop-j-init
 loop-j-init c = rw c.none-group.ensures (walked_none _)
