@@ -67,11 +67,17 @@ pub fn show_planned<'a>(
     Ok(w)
 }
 
-// Shows the trigger list of one node, or those of all.
-pub fn show_lists(rt: &impl Env, call: Call, node: Option<usize>) -> Result<(), Told> {
+// The trigger lists of all nodes with a proposal that is accepted.
+pub fn lists(rt: &impl Env, call: Call) -> Result<[u32; triggers::MOST_WORDS], Told> {
     let mut lists = [0u32; triggers::MOST_WORDS];
     let got = triggers::lists(call.file, call.words, &mut lists);
     answered(rt, call, got)?;
+    Ok(lists)
+}
+
+// Shows the trigger list of one node, or those of all.
+pub fn show_lists(rt: &impl Env, call: Call, node: Option<usize>) -> Result<(), Told> {
+    let lists = lists(rt, call)?;
     paper::say(b"done\n");
     tables::lists(&lists, node);
     Ok(())

@@ -40,9 +40,7 @@ fn show_messages(p: &[u32], w: &[u32], kept: &[u32], old: Line)
 
 // Shows which nodes must be loaded anew, and which not.
 fn show_nodes(rt: &impl Env, call: Call, old: Line) -> Result<(), Told> {
-    let mut lists = [0u32; triggers::MOST_WORDS];
-    let got = triggers::lists(call.file, call.words, &mut lists);
-    answers::answered(rt, call, got)?;
+    let lists = answers::lists(rt, call)?;
     changes::nodes(
         b"# nodes with a changed trigger list:",
         old.lists,
@@ -99,9 +97,7 @@ fn plan_given<R: Env + Files + Input>(rt: &R, old: Line) -> Result<(), Told>
 pub fn extend<R: Env + Files + Input>(rt: &R) -> Result<(), Told> {
     let mut room = Room::new();
     let call = room.proposal(rt, Subject::Old)?;
-    let mut lists = [0u32; triggers::MOST_WORDS];
-    let got = triggers::lists(call.file, call.words, &mut lists);
-    answers::answered(rt, call, got)?;
+    let lists = answers::lists(rt, call)?;
     let mut words = [FILL; words::MOST_WORDS];
     let p = input::decoded(rt, call.file, &mut words)?;
     let old = Line {

@@ -6,7 +6,7 @@ use reasons::Call;
 use rules::words;
 use std::rt::{Env, Files};
 
-// Room for a problem and for a word list beside it, with the text that a person wrote of each.
+// Room for a problem and for a word list beside it, with the text that a person wrote of each: fixed memory, since the desk allocates none.
 #[derive(Drop)]
 pub struct Room {
     text: [u8; 65536],
@@ -16,6 +16,7 @@ pub struct Room {
 }
 
 impl Room {
+    // Room that holds nothing yet.
     pub fn new() -> Room {
         Room {
             text: io::large_buffer(),
