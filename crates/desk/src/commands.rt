@@ -60,7 +60,7 @@ fn show_file<R: Env + Files + Input>(rt: &R) -> Result<(), Told> {
     Ok(())
 }
 
-// A file moved to a version.
+// A file moved to a version: the layout is handed on, and not the call, since its version is printed too.
 fn moved(file: &[u8], layout: Layout, out: &mut [u8]) -> Result<usize, Refusal> {
     match layout {
         Layout::One => versions::back(file, out),
