@@ -1,6 +1,7 @@
 -- Some messages of a problem as a problem of their own: the same matrix, and of the messages only these.
 use Rattle.std.specs.Prelude.{ℕ, ◌+◌, ◌<◌, ◌≡◌, List, length, get_or}
-use Rattle.rules.specs.Problem.{columns, messages, column_at, message_at, words_for, field}
+use Rattle.rules.specs.Problem.{columns, messages, column_at, message_at, words_for, field, most_columns}
+use Rattle.places.specs.Places.{most_planned}
 
 -- where a problem has the number of its messages
 abbrev pub count_at : ℕ
@@ -9,6 +10,10 @@ count_at = 6
 -- how many words a message has
 abbrev pub message_words : ℕ
 message_words = 7
+
+-- how many words the longest problem that is planned has
+abbrev pub part_words : ℕ
+part_words = words_for most_columns most_planned
 
 -- q is the problem p with n messages only, those whose numbers are the first words of m
 pub record Part (p m : List ℕ) (n : ℕ) (q : List ℕ) : Type 0 where

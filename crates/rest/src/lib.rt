@@ -8,7 +8,7 @@ ghost use Rattle.rules.specs.Problem.{WellFormed, messages as messageCount, most
 ghost use Rattle.rules.specs.declared.Refusal.TheVariants.{TooMany};
 ghost use Rattle.places.specs.Places.{most_planned};
 ghost use Rattle.rest.specs.Free.{free_of, Free};
-ghost use Rattle.rest.specs.Part.{Part, Numbers, Filed};
+ghost use Rattle.rest.specs.Part.{Part, Numbers, Filed, part_words};
 ghost use Rattle.rest.specs.Joined.{Joined};
 
 pub use group::Group;
@@ -50,8 +50,8 @@ pub fn free_group(kept: &[u32], messages: usize) -> Result<Group, Refusal>
 }
 
 // Copies the record of message j to slot s of a problem with the same columns.
-fn copy_message(p: &[u32], j: usize, s: usize, q: &mut [u32; PART_WORDS])
-    requires { WellFormed p.now × (j < messageCount p.now) × (s < most_planned) }
+fn copy_message(p: &[u32], j: usize, s: usize, q: &mut [u32])
+    requires { WellFormed p.now × (j < messageCount p.now) × (s < most_planned) × (part_words ≤ length q.old) }
     ensures { Filed p.now j s q.old q.new }
 {
     let columns = words::columns_of(p);
@@ -61,8 +61,9 @@ fn copy_message(p: &[u32], j: usize, s: usize, q: &mut [u32; PART_WORDS])
 }
 
 // Some messages of a problem as a problem of their own, in a buffer that the caller lends.
-pub fn part_of<'a>(p: &[u32], group: &Group, buffer: &'a mut [u32; PART_WORDS]) -> &'a [u32]
-    requires { WellFormed p.now × Numbers p.now group.now (length group.now) }
+pub fn part_of<'a>(p: &[u32], group: &Group, buffer: &'a mut [u32]) -> &'a [u32]
+    requires well_formed { WellFormed p.now × Numbers p.now group.now (length group.now) }
+    requires part_words_in_bounds { part_words ≤ length buffer.old }
     ensures { Part p.now group.now (length group.now) result.now }
 {
     let columns = words::columns_of(p);
