@@ -55,16 +55,6 @@ fn write_cell(p: &[u32], number: usize, time: usize, list: &mut [u32]) -> usize
     PAIR
 }
 
-// The table of cells of an accepted proposal.
-fn table_of(p: &[u32], w: &[u32]) -> [u8; CELLS]
-    requires { Accepted p.now w.now }
-    ensures { Table p.now w.now (messageCount p.now) result }
-{
-    let mut table = [0u8; CELLS];
-    cells::fill(p, w, &mut table);
-    table
-}
-
 // The sends in the cells of row i, counted from time 0 on; answers how many words they are.
 fn write_cells(p: &[u32], table: &[u8; CELLS], i: usize, list: &mut [u32]) -> usize
     requires numbered { Numbered p.now table.now × (i < most_rows_due) }
@@ -123,7 +113,9 @@ fn due_accepted(p: &[u32], w: &[u32], span: usize, list: &mut [u32]) -> Result<u
     ensures { DueAccepted p.now w.now span list.old list.new result }
 {
     refuse_if(list.len() < PAIR * (cycle_sends(p) * span), Refusal::Room)?;
-    Ok(write_rows(p, &table_of(p, w), span * words::rows_of(p), list))
+    let mut table = [0u8; CELLS];
+    cells::fill(p, w, &mut table);
+    Ok(write_rows(p, &table, span * words::rows_of(p), list))
 }
 
 // Writes the list of the sends that start in so many matrix cycles into the caller's buffer, which keeps its words beyond them; answers how many words the list has.
@@ -152,7 +144,8 @@ fn agreeing(due: &[u32], later: usize, log: &[u32]) -> usize
     ensures { Agreeing due.now later log.now result }
 {
     let most = due.len().min(log.len());
-    for at in (0..most).step_by(PAIR) {
+    for pair in 0..most / PAIR {
+        let at = PAIR * pair;
         if log[at] as usize != due[at] as usize + later || log[at + 1] != due[at + 1] {
             return at;
         }
@@ -188,7 +181,9 @@ fn hold_accepted(p: &[u32], w: &[u32], log: &[u32], span: usize) -> Result<(), D
     requires { Accepted p.now w.now × (length log.now % 2 ≡ 0) × (1 ≤ span) × (span ≤ most_span) }
     ensures { HoldingAccepted p.now w.now span log.now result }
 {
-    let n = hold_rows(p, &table_of(p, w), log)?;
+    let mut table = [0u8; CELLS];
+    cells::fill(p, w, &mut table);
+    let n = hold_rows(p, &table, log)?;
     let all = n * span;
     let later = words::rows_of(p) * words::cycle_of(p);
     let reach = log.len().min(all);

@@ -17,6 +17,8 @@ use std::rt::{Env, Files};
 use views::matrix::Form;
 use views::{matrix, tables};
 
+// Each command has a frame of its own, so that none takes the room of the others: a log alone has 1.7 MB.
+
 // ---- a problem
 
 // Shows the header and the messages of a problem file that has these words.
@@ -28,6 +30,7 @@ fn show_header(file: &[u8], p: &[u32])
 }
 
 // A problem: its header, its messages and its windows.
+#[inline(never)]
 fn show_problem<R: Env + Files + Input>(rt: &R) -> Result<(), Told> {
     let mut room = Room::new();
     let call = room.problem(rt)?;
@@ -39,6 +42,7 @@ fn show_problem<R: Env + Files + Input>(rt: &R) -> Result<(), Told> {
 }
 
 // A problem as a word list.
+#[inline(never)]
 fn show_words<R: Env + Files + Input>(rt: &R) -> Result<(), Told> {
     let mut room = Room::new();
     let call = room.problem(rt)?;
@@ -49,6 +53,7 @@ fn show_words<R: Env + Files + Input>(rt: &R) -> Result<(), Told> {
 }
 
 // The file of a problem's words.
+#[inline(never)]
 fn show_file<R: Env + Files + Input>(rt: &R) -> Result<(), Told> {
     let mut text = io::large_buffer();
     let mut words = [0u32; input::LIST_WORDS];
@@ -69,6 +74,7 @@ fn moved(file: &[u8], layout: Layout, out: &mut [u8]) -> Result<usize, Refusal> 
 }
 
 // A problem moved to a version, which is kept under the name that an argument gives.
+#[inline(never)]
 fn move_to<R: Env + Files + Input>(rt: &R, layout: Layout) -> Result<(), Told> {
     let mut room = Room::new();
     let call = room.problem(rt)?;
@@ -93,6 +99,7 @@ fn move_to<R: Env + Files + Input>(rt: &R, layout: Layout) -> Result<(), Told> {
 // ---- plans
 
 // The least acceptable proposal.
+#[inline(never)]
 fn plan<R: Env + Files + Input>(rt: &R) -> Result<(), Told> {
     let mut room = Room::new();
     let call = room.problem(rt)?;
@@ -103,6 +110,7 @@ fn plan<R: Env + Files + Input>(rt: &R) -> Result<(), Told> {
 }
 
 // The least acceptable proposal that keeps what is to be kept.
+#[inline(never)]
 fn replan<R: Env + Files + Input>(rt: &R) -> Result<(), Told> {
     let mut room = Room::new();
     let call = room.kept(rt)?;
@@ -115,6 +123,7 @@ fn replan<R: Env + Files + Input>(rt: &R) -> Result<(), Told> {
 // ---- a proposal
 
 // Whether a proposal is accepted, and where the bus time then goes.
+#[inline(never)]
 fn check<R: Env + Files + Input>(rt: &R) -> Result<(), Told> {
     let mut room = Room::new();
     let call = room.proposal(rt, Subject::Given)?;
@@ -126,6 +135,7 @@ fn check<R: Env + Files + Input>(rt: &R) -> Result<(), Told> {
 }
 
 // A problem with the matrix of a proposal that is accepted.
+#[inline(never)]
 fn show<R: Env + Files + Input>(rt: &R) -> Result<(), Told> {
     let mut room = Room::new();
     let call = room.proposal(rt, Subject::Given)?;
@@ -138,6 +148,7 @@ fn show<R: Env + Files + Input>(rt: &R) -> Result<(), Told> {
 }
 
 // The trigger list of one node, or those of all.
+#[inline(never)]
 fn lists<R: Env + Files + Input>(rt: &R, node: Option<usize>) -> Result<(), Told> {
     let mut room = Room::new();
     let call = room.proposal(rt, Subject::Given)?;
@@ -145,6 +156,7 @@ fn lists<R: Env + Files + Input>(rt: &R, node: Option<usize>) -> Result<(), Told
 }
 
 // A log held against a proposal.
+#[inline(never)]
 fn hold<R: Env + Files + Input>(rt: &R) -> Result<(), Told> {
     let span = given::span(rt, 5)?;
     let mut room = Room::new();
@@ -153,6 +165,7 @@ fn hold<R: Env + Files + Input>(rt: &R) -> Result<(), Told> {
 }
 
 // The log that a proposal has due.
+#[inline(never)]
 fn due<R: Env + Files + Input>(rt: &R) -> Result<(), Told> {
     let span = given::span(rt, 4)?;
     let mut room = Room::new();
@@ -163,6 +176,7 @@ fn due<R: Env + Files + Input>(rt: &R) -> Result<(), Told> {
 // ---- events
 
 // The response times of events. The script is told whether all deadlines are met.
+#[inline(never)]
 fn times<R: Env + Files + Input>(rt: &R) -> Result<(), Told> {
     let mut text = io::large_buffer();
     let mut words = [0u32; input::LIST_WORDS];

@@ -43,6 +43,7 @@ fn show_all(rt: &impl Env, file: &[u8]) -> Result<(), Told> {
 }
 
 // Plans document 003's example, and shows all of it.
+#[inline(never)]
 pub fn show(rt: &impl Env) -> Result<(), Told> {
     let mut bytes = [0u8; problem::MOST_BYTES];
     let file = input::written(rt, &PROBLEM, &[], &mut bytes, Subject::Given)?;

@@ -94,6 +94,7 @@ fn plan_given<R: Env + Files + Input>(rt: &R, old: Line) -> Result<(), Told>
 // ---- the old line
 
 // Reads the old problem and its plan, which must be accepted, and goes on.
+#[inline(never)]
 pub fn extend<R: Env + Files + Input>(rt: &R) -> Result<(), Told> {
     let mut room = Room::new();
     let call = room.proposal(rt, Subject::Old)?;

@@ -34,7 +34,8 @@ pub struct Source<'a> {
 
 // So many items of a buffer, or all of them.
 pub fn within<T>(n: usize, items: &[T]) -> usize
-    ensures { IsFront result items.now }
+    ensures front { IsFront result items.now }
+    ensures most { result ≤ n }
 {
     n.min(items.len())
 }
@@ -123,11 +124,9 @@ pub fn open<R: Env + Files + Input>(
 }
 
 // The bytes of an open file. One byte more is asked for, which tells a file that cannot be read, or is too long, from one that ends.
-fn read_open<'a, F: Read>(
-    file: &mut F,
-    name: &[u8],
-    bytes: &'a mut [u8],
-) -> Result<&'a [u8], Told> {
+fn read_open<'a, F: Read>(file: &mut F, name: &[u8], bytes: &'a mut [u8]) -> Result<&'a [u8], Told>
+    ensures { IfOk result (λ read. length read.now ≤ length bytes.old) }
+{
     let n = host::read_full(file, bytes);
     let mut more = [0u8; 1];
     match file.read(&mut more) {
@@ -147,7 +146,9 @@ fn read<'a, R: Env + Files + Input>(
     i: usize,
     name: &[u8],
     bytes: &'a mut [u8],
-) -> Result<&'a [u8], Told> {
+) -> Result<&'a [u8], Told>
+    ensures { IfOk result (λ read. length read.now ≤ length bytes.old) }
+{
     let mut file = open(rt, i, name)?;
     read_open(&mut file, name, bytes)
 }
@@ -283,7 +284,9 @@ pub fn words<'a, R: Env + Files + Input>(
     text: &'a mut [u8],
     words: &'a mut [u32],
     to: Use,
-) -> Result<List<'a>, Told> {
+) -> Result<List<'a>, Told>
+    ensures { IfOk result (λ list. (length list.words.now ≤ length words.old) × (length list.text.now ≤ length text.old)) }
+{
     let mut name = io::buffer();
     let k = host::arg(rt, i, &mut name);
     let text = read(rt, i, &name[..k], text)?;
@@ -313,7 +316,8 @@ fn has_mark(bytes: &[u8]) -> bool {
 // The words of a problem file, in a buffer that is large enough; why it is refused is said.
 pub fn decoded<'a>(rt: &impl Env, file: &[u8], words: &'a mut [u32]) -> Result<&'a [u32], Told>
     requires { most_words ≤ length words.old }
-    ensures { IfOk result (λ p. WellFormed p.now) }
+    ensures prefix { IfOk result (λ p. length p.now ≤ length words.old) }
+    ensures well_formed { IfOk result (λ p. WellFormed p.now) }
 {
     match reader::decode(file, words) {
         Ok(n) => Ok(&words[..n]),
@@ -340,7 +344,9 @@ pub fn written<'a>(
     text: &[u8],
     bytes: &'a mut [u8],
     subject: Subject,
-) -> Result<&'a [u8], Told> {
+) -> Result<&'a [u8], Told>
+    ensures { IfOk result (λ file. length file.now ≤ length bytes.old) }
+{
     match writer::write(words, bytes) {
         Ok(n) => Ok(&bytes[..within(n, bytes)]),
         Err(q) => {
@@ -350,14 +356,16 @@ pub fn written<'a>(
     }
 }
 
-// The problem file that an argument names, and its text. A name that ends in .tsm and a file that begins with the mark are problem files;
-// anything else is a word list, of which the file is made here.
+// The problem file that an argument names, no more of it than there is room for, and its text. A name that ends in .tsm and a file that begins with the mark
+// are problem files; anything else is a word list, of which the file is made here.
 pub fn problem<'a, R: Env + Files + Input>(
     rt: &R,
     subject: Subject,
     text: &'a mut [u8],
     bytes: &'a mut [u8],
-) -> Result<Source<'a>, Told> {
+) -> Result<Source<'a>, Told>
+    ensures { IfOk result (λ source. (length source.file.now ≤ length bytes.old) × (length source.text.now ≤ length text.old)) }
+{
     let mut name = io::buffer();
     let i = subject.problem_at();
     let m = host::arg(rt, i, &mut name);
@@ -365,7 +373,7 @@ pub fn problem<'a, R: Env + Files + Input>(
     let text = read(rt, i, name, text)?;
     if name.ends_with(b".tsm") || has_mark(text) {
         return Ok(Source {
-            file: text,
+            file: &text[..within(bytes.len(), text)],
             text: &[],
         });
     }

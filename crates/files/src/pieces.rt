@@ -132,7 +132,9 @@ pub fn words<'a, R: Env + Files + Input>(
     rt: &R,
     i: usize,
     words: &'a mut [u32],
-) -> Result<&'a [u32], Told> {
+) -> Result<&'a [u32], Told>
+    ensures { IfOk result (λ log. length log.now ≤ length words.old) }
+{
     let mut name = io::buffer();
     let k = host::arg(rt, i, &mut name);
     let name = &name[..k];

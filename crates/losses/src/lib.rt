@@ -30,10 +30,10 @@ impl From<BusTime> for [u32; 5] {
 
 // What the cells seen so far come to.
 #[derive(Drop)]
-struct Tally {
-    used: usize,
-    in_window: usize,
-    empty: usize,
+pub struct Tally {
+    pub used: usize,
+    pub in_window: usize,
+    pub empty: usize,
 }
 
 impl Tally {

@@ -1,6 +1,7 @@
 -- The least plan that keeps the kept placements, from the least that suits the other messages around them.
 use Prim.Native.Nat.{ℕ, ◌*◌, ◌+◌, ◌<◌, ◌≤◌}
 use mathlib.Core.Path.{◌≡◌, sym, ◌∙◌}
+use mathlib.Core.Bool.{Bool, true, false}
 use mathlib.Core.List.{List}
 use native.Mathlib.Omega.{arith}
 use lib.ListN.{length, get_or, take}
@@ -11,12 +12,18 @@ use Rattle.rest.specs.Part.{Part}
 use Rattle.rest.specs.Joined.{Joined}
 use Rattle.planner.specs.Order.{Agree}
 use Rattle.planner.specs.Least.{PlanKeeping}
-use Rattle.planner.specs.Search.{Suiting, Best, Nowhere}
-use Rattle.planner.specs.Complete.{Sound, Completed}
+use Rattle.planner.specs.Search.{Suiting, Best, Nowhere, Searched}
+use Rattle.planner.specs.Complete.{Sound, Completed, Completes}
+use Rattle.std.specs.Prelude.{Option, Some, None}
 use Rattle.planner.proofs.Order.{agree-none, agree_less, not-after-agree}
 use Rattle.planner.proofs.Gone.{fault-agree}
 use Rattle.planner.proofs.Least.{plan-stands, stands-plan}
 use Rattle.planner.proofs.Parting.{Picked, pick, picked, suits-rest, stands-whole, not-after-whole}
+
+-- a list, if it was found
+abbrev pub found : Bool → List ℕ → Option (List ℕ)
+found true u = Some u
+found false u = None
 
 module _ {p k t m q : List ℕ} {n : ℕ} (S : Sound p k t m n) (Q : Part p m n q) where
   -- a plan that keeps them suits the others by its slots
@@ -65,3 +72,9 @@ module _ {p k t m q : List ℕ} {n : ℕ} (S : Sound p k t m n) (Q : Part p m n 
 
   pub incomplete : {z : List ℕ} → Nowhere (Suiting q t) 0 z → (v : List ℕ) → PlanKeeping p k v → ⊥
   incomplete {z} N v h = N.none (pick v m n n) (picked-suits v h) (agree-none z (pick v m n n))
+
+  -- so what was found for the others, or that nothing was, is that of the whole
+  pub completes : {u w : List ℕ} → length w ≡ 2 * most_messages → Joined k m n u (messages p) w → (z : List ℕ) (b : Bool)
+      → Searched (Suiting q t) (messages q) 0 z (found b u) → Completes p k (found b w)
+  completes long whole z true B = completed long whole B
+  completes long whole z false N = incomplete N

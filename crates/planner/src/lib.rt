@@ -38,14 +38,14 @@ fn room_from(
     p: &Plannable,
     table: &[u32; places::TABLE_WORDS],
     prices: &mut [u16; prices::CELLS],
-    seen: Option<[u32; PLAN_WORDS]>,
+    seen: Option<&[u32; PLAN_WORDS]>,
     at: usize,
 ) -> Option<[u32; PLAN_WORDS]>
     requires { at ≤ messages p.now }
     ensures { MatchOption result (Full p.now table.now at) (λ room. Unit {0}) }
 {
-    if seen.is_some() {
-        return seen;
+    if let Some(room) = seen {
+        return Some(*room);
     }
     let count = p.messages();
     let left = unplaced(at, count);
@@ -71,13 +71,14 @@ fn columns_in(table: &[u32; places::TABLE_WORDS], j: usize, step: usize) -> u32
 
 // The least proposal that begins with the placements of the first `at` messages, or that there is none. The search calls itself on the
 // messages still unplaced, whose number falls by one at each call. Where it is known that they find room, `seen` has it.
-// What changes with each call stays four parameters: a struct of them would be made and taken apart at once, in the code and in each clause.
+// What changes with each call stays four parameters: a struct of them would be made and taken apart at once, in the code and in each clause. The placements go by
+// value, as document 01 has it; what is seen is lent, since each frame would hold it twice, and the header says how much stack a call takes.
 fn search(
     p: &Plannable,
     table: &[u32; places::TABLE_WORDS],
     prices: &mut [u16; prices::CELLS],
     plan: [u32; PLAN_WORDS],
-    seen: Option<[u32; PLAN_WORDS]>,
+    seen: Option<&[u32; PLAN_WORDS]>,
     at: usize,
 ) -> Option<[u32; PLAN_WORDS]>
     requires { Begun p.now table.now at plan }
@@ -97,7 +98,7 @@ fn search(
                 places::beside(p, table, rest, at, c as usize, r, &mut next);
                 let mut longer = plan;
                 kept::put(&mut longer, at, c, r as u32);
-                let known = stands_at(&room, at, c, r).then_some(room);
+                let known = stands_at(&room, at, c, r).then_some(&room);
                 if let Some(least) = search(p, &next, prices, longer, known, at + 1) {
                     return Some(least);
                 }

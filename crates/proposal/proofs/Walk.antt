@@ -11,7 +11,7 @@ use lib.ListN.{length}
 use borrow.Author.Count.{below_more}
 use borrow.Author.Tests.{eq-eqb, ne_eqb}
 use Rattle.basics.specs.Tests.{some}
-use Rattle.basics.proofs.Tests.{true-or, not-both, some-none}
+use Rattle.basics.proofs.Tests.{true-or, not-both, some_at, some-none}
 use Rattle.rules.specs.declared.Refusal.{Refusal}
 use Rattle.rules.specs.declared.Refusal.TheVariants.{ProposalLength, Meeting}
 use Rattle.rules.specs.Parts.{Member}
@@ -26,6 +26,14 @@ use Rattle.row_words.specs.RowWords.{Taken, RowWords, Occupied}
 use Rattle.row_words.proofs.Taking.{tells-meeting, words_more}
 use Rattle.proposal.specs.Partial.{looked, fault_in, kept_fault, Walked}
 use Rattle.std.specs.Prelude.{Err, Ok}
+
+-- ---- the earlier messages, where one of them meets message j
+-- it is none of those before i, so i is an earlier one too
+pub sought : (p w : List ℕ) {i j : ℕ} → some j (λ k. meets p w k j) ≡ true → ((k : ℕ) → k < i → meets p w k j ≡ false) → i < j
+sought p w {i} {j} h unmet =
+    let k = some_at j (λ k. meets p w k j) h in
+    let least : ¬ (k.0 < i) = λ l. not-both k.2 (unmet k.0 l) in
+    omega (arith, k.1)
 
 -- ---- which messages are looked at
 module _ (partial : Bool) (p w : List ℕ) (j : ℕ) where
@@ -112,6 +120,10 @@ module _ {partial : Bool} {p w t t' : List ℕ} {j : ℕ} {b : Bool} (u : Turn p
   -- so it found a cell taken exactly where it meets an earlier message
   pub tells : b ≡ some j (λ k. meets p w k j)
   tells = tells-meeting u.member u.words u.marked placed met-placed
+
+  -- where it did, it meets an earlier one than all that it does not meet
+  pub taken-met : b ≡ true → {i : ℕ} → ((k : ℕ) → k < i → meets p w k j ≡ false) → i < j
+  taken-met h = sought p w (sym tells ∙ h)
 
   -- where it did not, it meets nobody
   pub untaken : b ≡ false → (k : ℕ) → k < j → meets p w k j ≡ false

@@ -50,6 +50,8 @@ fn first_fault(
                         break 'faults Err(Refusal::Meeting(j as u32, i as u32));
                     }
                 }
+                // A cell that is taken is an earlier message's: the label is the only way out.
+                unreachable!();
             }
         }
         Ok(())

@@ -19,14 +19,19 @@ use Rattle.problem.proofs.File.{length-words}
 use Rattle.problem.proofs.Wrong.{Head, file-rest, file-formed}
 use Rattle.problem.proofs.Callers.{recast-length}
 use Rattle.rules.proofs.Told.{answers-refused, answers-done}
-use Rattle.reader.specs.Promise.{Laid, Opened, Reading}
+use Rattle.reader.specs.Promise.{Answered, Laid, Opened, Reading}
 use Rattle.reader.specs.Parts.{Sized}
 use Rattle.std.specs.Prelude.{Err, Ok}
 use Rattle.rules.specs.Refusal.{Fault}
+use Rattle.rules.specs.Paper.{Answer}
 
 pub head-sized : {L : Layout} (f : List ℕ) (k m : ℕ) → Head f → L ≡ layout_in f → k ≡ columns_in f → m ≡ messages_in f → Sized L f k m
 head-sized f k m h l p q =
     record { columns-are = p; messages-are = q; bytes = rw (l, p, q) h.bytes; columns-most = omega arith; messages-most = omega arith }
+
+-- a refusal that is handed on is the fault that was looked for
+pub refused-is : {x : Fault} (P : ℕ → Type 0) {r : Answer} {q : Refusal} → Answered x P r → r ≡ Err q → x ≡ Err q
+refused-is P h e = rw e at h
 
 -- the words of a file with k columns and m messages, which are n, stand in front of the buffer e
 pub laid : {L : Layout} (f w e : List ℕ) (k m n : ℕ) → head_fault f ≡ Ok tt → L ≡ layout_in f → Sized L f k m → most_words ≤ length e

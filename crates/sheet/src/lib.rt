@@ -9,8 +9,9 @@ ghost use Rattle.std.specs.Prelude.{◌≤◌, IfSome, length};
 ghost use Rattle.sheet.specs.Pieces.{PieceIn};
 
 use fields::Field;
+pub use wordlist::Piece;
 use wordlist::lines::line_end;
-use wordlist::{Piece, front, word_from};
+use wordlist::{front, word_from};
 
 // What a line of a sheet is about.
 #[derive(Clone, Copy, PartialEq, Eq)]
@@ -119,20 +120,20 @@ pub fn record_named(text: &[u8], kind: Kind, name: &[u8]) -> Option<Piece>
 }
 
 // The line of the record of the node of this number.
-pub fn node(text: &[u8], n: u32) -> Option<Piece>
+pub fn node(text: &[u8], n: u64) -> Option<Piece>
     ensures { IfSome result (PieceIn text.now) }
 {
     record_where(text, Kind::Node, 0, |line| {
-        fields::number(line, Field::Number) == Some(n)
+        fields::number(line, Field::Number).map(u64::from) == Some(n)
     })
 }
 
 // Which message has this identifier, from 0.
-pub fn message_of(text: &[u8], identifier: u32) -> Option<usize> {
+pub fn message_of(text: &[u8], identifier: u64) -> Option<usize> {
     text[front(text)..]
         .split_inclusive(ends_line)
         .filter(|line| is_record(line, Kind::Message))
-        .position(|line| fields::number(line, Field::Identifier) == Some(identifier))
+        .position(|line| fields::number(line, Field::Identifier).map(u64::from) == Some(identifier))
 }
 
 // The line of a node by its number, of a column or a message by its place among its kind.
@@ -140,7 +141,7 @@ pub fn line_of(text: &[u8], kind: Kind, i: usize) -> Option<Piece>
     ensures { IfSome result (PieceIn text.now) }
 {
     match kind {
-        Kind::Node => node(text, u32::try_from(i).ok()?),
+        Kind::Node => node(text, i as u64),
         _ => record(text, kind, i),
     }
 }

@@ -93,7 +93,7 @@ fn check_node(text: &[u8], n: u32, line: usize) -> Result<(), Wrong>
     if 15 < n {
         return Err(Wrong::Node);
     }
-    match node(text, n) {
+    match node(text, u64::from(n)) {
         Some(first) if first.from < line => Err(Wrong::NodeTaken(first.from)),
         _ => Ok(()),
     }

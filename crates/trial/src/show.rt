@@ -54,7 +54,7 @@ pub fn start(title: &[u8], call: &[u8]) {
 
 // Ends a case's line.
 pub fn end(is_right: bool) {
-    paper::line(if is_right { b": ok" } else { b": DIFFERS" });
+    paper::text(if is_right { b": ok\n" } else { b": DIFFERS\n" });
 }
 
 // Shows a refusal where the document wants this number, place and second place, or none.

@@ -1,4 +1,6 @@
 // A call's answer and output held to what is expected of them.
+ghost use Rattle.std.specs.Prelude.{◌<◌, IfSome, length};
+
 use crate::calls::NUMBERS;
 
 // What is there and what is expected, at one of the numbers or at a place of the buffer.
@@ -23,7 +25,9 @@ fn first_unlike<T: Copy + PartialEq + Into<u64>>(
     are: &[T],
     expected: &[T],
     pattern: T,
-) -> Option<Unlike> {
+) -> Option<Unlike>
+    ensures { IfSome result (λ u. u.at < length are.now) }
+{
     for (at, is) in are.iter().enumerate() {
         let wanted = expected.get(at).copied().unwrap_or(pattern);
         if *is != wanted {
@@ -72,8 +76,10 @@ fn name(k: usize) -> &'static [u8] {
 
 // Ends a line with what is there and what is expected.
 fn end_line(u: Unlike) {
-    paper::text_count(b" is ", u.is as usize);
-    paper::text_count(b", expected ", u.expected as usize);
+    paper::text(b" is ");
+    io::print_decimal(1, u.is);
+    paper::text(b", expected ");
+    io::print_decimal(1, u.expected);
     paper::end_line();
 }
 

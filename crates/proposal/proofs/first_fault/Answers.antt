@@ -3,9 +3,8 @@ use Rattle.std.proofs.Common.{arith, sym, ◌∙◌, below_more, below_none}
 use Rattle.rules.specs.Problem.{column, row, Placed}
 use Rattle.rules.proofs.Bounds.{member}
 use Rattle.rules.proofs.Meaning.{own_alone}
-use Rattle.proposal.proofs.Walk.{passed_none, passed-skip, passed-more, words-skip, words-passed, unlooked-kept, own_read, own_first, turn-read, untaken, met-first, all-clear}
+use Rattle.proposal.proofs.Walk.{passed_none, passed-skip, passed-more, words-skip, words-passed, unlooked-kept, own_read, own_first, turn-read, taken-met, untaken, met-first, all-clear}
 use Rattle.proposal.proofs.first_fault.Goals as goal
-use Rattle.proposal.proofs.first_fault.Goals.{then-occupy+else-loop-i-test as unmet, else-occupy as free}
 
 pub loop-j-init : goal.loop-j-init
 loop-j-init c = record { passed = passed_none; words = c.requires.3 }
@@ -49,6 +48,17 @@ loop-i-init c = below_none _
 pub loop-i-preserved : goal.loop-i-preserved
 loop-i-preserved c = below_more _ _ c.loop-i.invariant (sym c.do_meet.ensures ∙ c.if-do_meet.false)
 
+-- one that found a cell taken meets an earlier message, so the search for it ends by the label
+pub unreachable-requires : goal.unreachable-requires
+unreachable-requires c =
+    let turn =
+    turn-read (member c.requires.0 (omega arith)) c.loop-j.invariant.passed (sym c.looks_at.ensures ∙ c.if-not-looks_at.false)
+    (sym (own_read c.column_of-c.ensures.0 c.row_of-r.ensures.0 c.own_fault-own.ensures).is ∙ c.in-Ok.is) c.loop-j.invariant.words
+    c.column_of-c.ensures.0 c.row_of-r.ensures.0 c.repeat_of-step.ensures.is c.rows_of-rows.ensures.0 c.occupy.ensures
+    in
+    let earlier = taken-met turn c.if-occupy.true c.loop-i.invariant in
+    omega arith
+
 pub loop-j-preserved : goal.loop-j-preserved
 loop-j-preserved c =
     let turn =
@@ -56,10 +66,7 @@ loop-j-preserved c =
     (sym (own_read c.column_of-c.ensures.0 c.row_of-r.ensures.0 c.own_fault-own.ensures).is ∙ c.in-Ok.is) c.loop-j.invariant.words
     c.column_of-c.ensures.0 c.row_of-r.ensures.0 c.repeat_of-step.ensures.is c.rows_of-rows.ensures.0 c.occupy.ensures
     in
-    record {
-      passed = passed-more turn (elim c.if-occupy.branch [ unmet w ↦ λ k l. w.loop-i.invariant k (omega arith) | free w ↦ untaken turn w.if-occupy.false ]);
-      words = words-passed turn;
-    }
+    record { passed = passed-more turn (untaken turn c.if-occupy.false); words = words-passed turn }
 
 pub returns-after-loop-j : goal.returns-after-loop-j
 returns-after-loop-j c = all-clear c.loop-j.invariant.passed c.loop-j.invariant.words c.requires.1 (omega arith)
