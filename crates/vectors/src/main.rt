@@ -31,7 +31,7 @@ fn start_line(name: &[u8], at: u32) {
 // Says why the cases end here.
 fn stop(name: &[u8], at: u32, why: Broken) {
     start_line(name, at);
-    paper::line(why.text());
+    paper::text(why.text());
 }
 
 // Whether the words are whole that a call takes and writes.

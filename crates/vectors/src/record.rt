@@ -60,9 +60,9 @@ impl Broken {
     // The end of a line that says so.
     pub fn text(self) -> &'static [u8] {
         match self {
-            Broken::Missing => b" is missing",
-            Broken::CutShort => b" is cut short",
-            Broken::TooLong => b" has a part that is longer than any case needs",
+            Broken::Missing => b" is missing\n",
+            Broken::CutShort => b" is cut short\n",
+            Broken::TooLong => b" has a part that is longer than any case needs\n",
         }
     }
 }
